@@ -1,12 +1,12 @@
 -- What is told beside the calls of a drive changes nothing but the properties of its names.
-use Rattle.std.proofs.Common.{◌≡◌, ℕ, Bool, true, false, true≢false, cond, ◌||◌, List, [], ◌∷◌, ◌++◌, length, Option, Some, None, refl, sym, ap, subst, ◌∙◌}
+use Rattle.std.proofs.Common.{◌≡◌, ℕ, Bool, true, false, true≢false, cond, List, [], ◌∷◌, ◌++◌, length, Option, Some, None, refl, sym, ap, subst, ◌∙◌}
 use Rattle.std.specs.Option.{option_map, option_map_or}
 use Rattle.std.specs.List.{AllByRecursion}
 use Rattle.std.specs.FinMap as finite
 use Rattle.node_base.specs.Path.{Name, Path, same_name, same_path, is_front, rest_after}
 use Rattle.node_base.proofs.PathLemmas.{name_of_same}
 use Rattle.node_base.specs.Props.{PropMap}
-use Rattle.node_base.specs.Tree.{PathMap, edited, marked, changed_at, grafted, with_number}
+use Rattle.node_base.specs.Tree.{PathMap, edited, marked, grafted, with_number}
 use Rattle.node_base.specs.declared.node.Node.{Node}
 use Rattle.node_base.specs.declared.node.NodeKind.TheVariants.{File, Dir}
 use Rattle.delta_editor.specs.CallEffect.{added, called, all_called, prop_put, with_prop, with_text, with_piece}
@@ -83,10 +83,10 @@ called_both trees f e call.CloseEdit a = a
 -- ---- what is told beside
 
 other_name : (name q : Name) → is_entry name ≡ true → is_entry q ≡ false → same_name q name ≡ false
-other_name name q yes no = by (same_name q name) refl
+other_name name q is isnt = by (same_name q name) refl
   where
     by : (b : Bool) → same_name q name ≡ b → b ≡ false
-    by true s = absurd (true≢false (sym yes ∙ ap is_entry (sym (name_of_same q name s)) ∙ no))
+    by true s = absurd (true≢false (sym is ∙ ap is_entry (sym (name_of_same q name s)) ∙ isnt))
     by false s = refl
 
 told_beside : (name : Name) (value : Option (List ℕ)) → is_entry name ≡ true → (b : Bool) (o u : Option Node) → AreAlike o u → AreAlike o (option_map (λ x. cond b (with_prop name value x) x) u)
@@ -108,7 +108,7 @@ files_told trees p [] h f e a = a
 files_told trees p (x ∷ es) h f e a = files_told trees p es h.1 f (called trees e (call.FileProp p x.0 x.1)) (λ q. told_beside x.0 x.1 h.0 (same_path p q) (f q) (e q) (a q))
 
 are_entries : (k : Facts) (x : Node) → AreEntries (entry_props k x)
-are_entries k x = (refl, refl, refl, refl, tt)
+are_entries k x = (refl, (refl, (refl, (refl, tt))))
 
 dir_told : (trees : List PathMap) (k : Facts) (p : Path) (f e : Nodes) → Alike f e → Alike f (all_called trees e (entry_calls k call.DirProp p))
 dir_told trees k p f e a = elim (finite.get k.target.now p) as (λ o. Alike f (all_called trees e (option_map_or (λ x. given (call.DirProp p) (entry_props k x)) o []))) [

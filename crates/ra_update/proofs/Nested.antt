@@ -5,7 +5,7 @@ use Rattle.std.specs.Option.{option_map_or, option_and_then}
 use Rattle.std.specs.List.{list_any, list_all, AllByRecursion}
 use Rattle.editor_ends.specs.Laws.{GoesDown}
 use Rattle.std.specs.FinMap as finite
-use Rattle.node_base.specs.Path.{Name, Path, same_path}
+use Rattle.node_base.specs.Path.{Name, Path}
 use Rattle.node_base.specs.declared.node.Node.{Node}
 use Rattle.node_base.proofs.PathLemmas.{same_path_itself}
 use Rattle.delta_editor.specs.Calls.{Adds}
@@ -19,11 +19,13 @@ use Rattle.ra_edit.specs.Commands.{edit_bytes}
 use Rattle.ra_update.specs.Sent.{up_to_end, calls_told}
 use Rattle.ra_update.specs.Updated.{ShowsUpdated, begun, begun_with, written_by}
 use Rattle.ra_update.specs.declared.editor.UpdateEditor.{UpdateEditor}
-use Rattle.delta_editor.specs.Nesting.{IsNested, Opened, OpenDir, OpenFile, OpenText, TextDone, Stage, Before, Within, After, is_dir, is_fresh, is_in_text, is_told, innermost, next, run}
+use Rattle.delta_editor.specs.Nesting.{IsNested, Opened, OpenDir, OpenFile, Stage, Before, Within, After, is_dir, innermost, next, run}
 use Rattle.ra_edit.specs.Wire.{Shows, is_deeper, AllDeeper}
 use Rattle.ra_edit.specs.declared.wire.WireEditor.{WireEditor}
 use Rattle.ra_update.specs.declared.facts.Facts.{Facts}
-use Rattle.ra_update.specs.Entries.{given, entry_props, entry_calls, updated, all_updated}
+use Rattle.std.specs.Prelude.{codes}
+use Rattle.std.specs.Fmt.{decimal}
+use Rattle.ra_update.specs.Entries.{revision_prop, given, entry_props, entry_calls, updated, all_updated}
 
 all_joined : (k : Facts) (xs ys : List Call) → all_updated k (xs ++ ys) ≡ all_updated k xs ++ all_updated k ys
 all_joined k [] ys = refl
@@ -97,13 +99,11 @@ opens s u c o es e h is = run-one s u c es e ∙ ap (λ t. run t es) is.1 ∙ h 
 -- what is opened is the innermost thing then
 innermost_is : (test : Opened → Bool) (new : Opened) (os : List Opened) (u : Stage) → innermost test (λ o out. new ∷ o ∷ out) os ≡ Some u → (rest : List Opened) × (u ≡ Within (new ∷ rest))
 innermost_is test new [] u e = cc
-innermost_is test new (o ∷ os) u = elim (test o) as (λ b. cond {A = Option Stage} b (Some (Within (new ∷ o ∷ os))) None ≡ Some u → (rest : List Opened) × (u ≡ Within (new ∷ rest))) [
-  | true ↦ λ e. (o ∷ os, some_is e)
-  | false ↦ λ e. cc
-]
+innermost_is test new (o ∷ os) u e = by (test o) e
   where
-    some_is : {X : Type 0} {a b : X} → Some a ≡ Some b → b ≡ a
-    some_is e = cc
+    by : (b : Bool) → cond {A = Option Stage} b (Some (Within (new ∷ o ∷ os))) None ≡ Some u → (rest : List Opened) × (u ≡ Within (new ∷ rest))
+    by true e = (o ∷ os, cc)
+    by false e = cc
 
 next_updated : (k : Facts) (s u : Stage) (c : Call) → next s c ≡ Some u → run s (updated k c) ≡ Some u
 next_updated k Before u (call.Target n) e = plain Before u (call.Target k.number) e
@@ -141,11 +141,11 @@ next_updated k s u call.CloseEdit e = plain s u call.CloseEdit e
 
 pub run_updated : (k : Facts) (s t : Stage) (cs : List Call) → run s cs ≡ Some t → run s (all_updated k cs) ≡ Some t
 run_updated k s t [] e = e
-run_updated k s t (c ∷ cs) e = by (next s c) refl e
+run_updated k s t (c ∷ cs) e = by (next s c) refl e (λ u. run_updated k u t cs)
   where
-    by : (o : Option Stage) → next s c ≡ o → option_and_then (λ u. run u cs) o ≡ Some t → run s (updated k c ++ all_updated k cs) ≡ Some t
-    by None is e = cc
-    by (Some u) is e = run-through s u (updated k c) (all_updated k cs) (next_updated k s u c is) ∙ run_updated k u t cs e
+    by : (o : Option Stage) → next s c ≡ o → option_and_then (λ u. run u cs) o ≡ Some t → ((u : Stage) → run u cs ≡ Some t → run u (all_updated k cs) ≡ Some t) → run s (updated k c ++ all_updated k cs) ≡ Some t
+    by None is e rest = cc
+    by (Some u) is e rest = run-through s u (updated k c) (all_updated k cs) (next_updated k s u c is) ∙ rest u e
 
 -- ---- what is opened is deeper than what is around it
 
@@ -189,11 +189,11 @@ one_deeper k call.CloseEdit h = refl
 
 pub deeper_updated : (k : Facts) (cs : List Call) → AllDeeper cs → AllDeeper (all_updated k cs)
 deeper_updated k [] h = refl
-deeper_updated k (c ∷ cs) h = by (is_deeper c) refl h
+deeper_updated k (c ∷ cs) h = by (is_deeper c) refl h (deeper_updated k cs)
   where
-    by : (b : Bool) → is_deeper c ≡ b → (b && list_all is_deeper cs) ≡ true → AllDeeper (updated k c ++ all_updated k cs)
-    by true is h = both_deeper (updated k c) (all_updated k cs) (one_deeper k c is) (deeper_updated k cs h)
-    by false is h = cc
+    by : (b : Bool) → is_deeper c ≡ b → (b && list_all is_deeper cs) ≡ true → (AllDeeper cs → AllDeeper (all_updated k cs)) → AllDeeper (updated k c ++ all_updated k cs)
+    by true is h rest = both_deeper (updated k c) (all_updated k cs) (one_deeper k c is) (rest h)
+    by false is h rest = cc
 
 -- the first of deeper calls
 pub deeper_front : (xs ys : List Call) → AllDeeper (xs ++ ys) → AllDeeper xs
@@ -205,6 +205,35 @@ deeper_front (x ∷ xs) ys h = by (is_deeper x) h (deeper_front xs ys)
     by false h f = cc
 
 -- ---- what methods show
+
+-- a call that is carried over
+pub carried_ok : {T X F : Type 0} (contents : T → Option (List ℕ)) (old new : WireEditor T) (k : Facts) (c : Call) (r : Result X F) → OnOk r (Adds (Shows contents) old new (updated k c))
+    → OnOk r ((calls : List Call) → Shows contents old (all_updated k calls) → Shows contents new (all_updated k (calls ++ c ∷ [])))
+carried_ok contents old new k c (Ok x) h = carried contents old new k c h
+carried_ok contents old new k c (Err e) h = tt
+
+-- nothing is told of what isn't there
+pub none_told : {T : Type 0} (contents : T → Option (List ℕ)) (e : WireEditor T) (k : Facts) (prop : Path → Name → Option (List ℕ) → Call) (p : Path) → finite.get k.target.now p ≡ None → Adds (Shows contents) e e (entry_calls k prop p)
+none_told contents e k prop p is calls s =
+    subst (λ o. Shows contents e (calls ++ option_map_or (λ x. given (prop p) (entry_props k x)) o [])) (sym is) (subst (Shows contents e) (sym (append-nil calls)) s)
+
+-- what is told of a node is told of what is there
+pub node_told : {T X F : Type 0} (contents : T → Option (List ℕ)) (old new : WireEditor T) (k : Facts) (prop : Path → Name → Option (List ℕ) → Call) (p q : Path) (x : Node) (r : Result X F) → q ≡ p → finite.get k.target.now p ≡ Some x → OnOk r (Adds (Shows contents) old new (given (prop q) (entry_props k x))) → OnOk r (Adds (Shows contents) old new (entry_calls k prop p))
+node_told contents old new k prop p q x r e is h = subst (λ o. OnOk r (Adds (Shows contents) old new (option_map_or (λ x. given (prop p) (entry_props k x)) o []))) (sym is) (subst (λ z. OnOk r (Adds (Shows contents) old new (given (prop z) (entry_props k x)))) e h)
+
+-- four calls, one after the other
+pub four_told : {T X F : Type 0} (shows : T → List Call → Type 0) (one two three four five : T) (a b c d : Call) (all : List Call) (r : Result X F) → all ≡ a ∷ b ∷ c ∷ d ∷ [] → Adds shows one two (a ∷ []) → Adds shows two three (b ∷ []) → Adds shows three four (c ∷ []) → OnOk r (Adds shows four five (d ∷ [])) → OnOk r (Adds shows one five all)
+four_told shows one two three four five a b c d all (Ok x) is h i j k =
+    subst (Adds shows one five) (sym is) (both_added shows one two five (a ∷ []) (b ∷ c ∷ d ∷ []) h (both_added shows two three five (b ∷ []) (c ∷ d ∷ []) i (both_added shows three four five (c ∷ []) (d ∷ []) j k)))
+four_told shows one two three four five a b c d all (Err e) is h i j k = tt
+
+-- what is told of a node, call by call
+pub entries_are : (prop : Path → Name → Option (List ℕ) → Call) (k : Facts) (x : Node) (p q r s : Path) (a b c d : Name) (v w y z : Option (List ℕ)) → q ≡ p → r ≡ p → s ≡ p
+    → a ≡ codes "svn:entry:committed-rev" → b ≡ codes "svn:entry:committed-date" → c ≡ codes "svn:entry:last-author" → d ≡ codes "svn:entry:uuid"
+    → v ≡ Some (decimal x.changed) → w ≡ revision_prop k x (codes "svn:date") → y ≡ revision_prop k x (codes "svn:author") → z ≡ Some k.identity.now
+    → given (prop p) (entry_props k x) ≡ prop p a v ∷ prop q b w ∷ prop r c y ∷ prop s d z ∷ []
+entries_are prop k x p q r s a b c d v w y z qe re se ae be ce de ve we ye ze =
+    λ i. prop p (sym ae i) (sym ve i) ∷ prop (sym qe i) (sym be i) (sym we i) ∷ prop (sym re i) (sym ce i) (sym ye i) ∷ prop (sym se i) (sym de i) (sym ze i) ∷ []
 
 -- a call that opens something, and what is told of that
 pub opened_shown : {T D F : Type 0} (contents : T → Option (List ℕ)) (old mid new : WireEditor T) (k : Facts) (c head : Call) (es : List Call) (r : Result D F) → updated k c ≡ head ∷ es → Adds (Shows contents) old mid (head ∷ [])

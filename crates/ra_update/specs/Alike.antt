@@ -2,7 +2,7 @@
 use Rattle.std.specs.Prelude.{◌≡◌, Bool, false, List, [], ◌∷◌, Option, Some, None, codes}
 use Rattle.std.specs.List.{list_any}
 use Rattle.std.specs.FinMap as finite
-use Rattle.node_base.specs.Path.{Name, Path, same_name}
+use Rattle.node_base.specs.Path.{Name, same_name}
 use Rattle.node_base.specs.declared.node.Node.{Node}
 
 -- the names of what is told beside a node's own properties

@@ -2,3 +2,4 @@ pub mod Alike
 pub mod Entries
 pub mod Sent
 pub mod Updated
+pub mod Updates

@@ -1,17 +1,12 @@
 -- What is written of an update.
-use Rattle.std.specs.Prelude.{◌≡◌, ℕ, List, [], ◌∷◌, ◌++◌, Some, length}
-use Rattle.std.specs.Option.{option_map}
+use Rattle.std.specs.Prelude.{List, [], ◌∷◌, ◌++◌, length}
 use Rattle.std.specs.FinMap as finite
 use Rattle.node_base.specs.Path.{Path}
 use Rattle.node_base.specs.Tree.{PathMap}
 use Rattle.dump_load.specs.declared.change.Change.{Change}
-use Rattle.dump_load.specs.Faults.{fault}
 use Rattle.delta_editor.specs.CallEffect.{all_called}
-use Rattle.delta_editor.specs.Faults.{refused}
 use Rattle.delta_editor.specs.declared.call.Call.{Call}
 use Rattle.delta_editor.specs.declared.call.Call.TheVariants as call
-use Rattle.delta_editor.specs.declared.fault.EditorFault.{EditorFault}
-use Rattle.delta_editor.specs.declared.fault.EditorFault.TheVariants.{OutOfMemory, PeerFailed}
 use Rattle.editor_ends.specs.Drive.{base_number, walk}
 use Rattle.ra_item.specs.Items.{Item}
 use Rattle.ra_edit.specs.Commands.{command}
@@ -36,9 +31,3 @@ calls_told k trees s = all_updated k (up_to_end trees s)
 -- applied to what was reported, the calls give what is wanted, but for the properties that are told beside a node's own
 abbrev pub Make : PathMap → PathMap → List Call → Type 0
 Make reported wanted calls = (q : Path) → AreAlike (all_called (reported ∷ []) (finite.get reported) calls q) (finite.get wanted q)
-
--- memory ran out, the writer failed, or it is the first fault of the changes
-pub data IsUnsent (trees : List PathMap) (s : List Change) (f : EditorFault) : Type 0 where
-  OfMemory : f ≡ OutOfMemory → IsUnsent trees s f
-  OfWriter : f ≡ PeerFailed → IsUnsent trees s f
-  OfChanges : option_map refused (fault trees s) ≡ Some f → IsUnsent trees s f

@@ -6,7 +6,7 @@ ghost use Rattle.std.specs.FinMap as finite;
 ghost use Rattle.node_base.specs.Path.{Path};
 ghost use Rattle.delta_editor.specs.Calls.{Adds};
 ghost use Rattle.delta_editor.specs.declared.call.Call.TheVariants as call;
-ghost use Rattle.delta_editor.specs.declared.fault.EditorFault.TheVariants.{OutOfMemory, PeerFailed};
+ghost use Rattle.delta_editor.specs.declared.fault.EditorFault.TheVariants.{OutOfMemory};
 ghost use Rattle.ra_edit.specs.Wire.{Shows, held_before};
 ghost use Rattle.ra_update.specs.Entries.{entry_calls, entry_props, given, revision_prop};
 ghost use Rattle.ra_update.specs.Updated.{Begun, ShowsUpdated, begun, begun_with, done_begun_with, path_of_dir, path_of_file, written_by};
@@ -59,7 +59,7 @@ impl<'a, W: Write + Drop> UpdateEditor<'a, W> {
 
     /// The writer, as the calls so far left it.
     pub fn into_writer(self) -> W
-        ensures { result ≡ written_by self }
+        ensures { result ≡ written_by self.entry }
     {
         let UpdateEditor {
             alloc: _,
@@ -89,7 +89,6 @@ fn tell_dir<W: Write + Drop>(
 ) -> Result<(), EditorFault>
     ensures shown { OnOk result (Adds (Shows W.contents) editor.old editor.new
         (given (call.DirProp (path_of_dir dir.old)) (entry_props facts.now node.now))) }
-    ensures refused { IfErr result (λ e. e ≡ PeerFailed) }
     ensures baton { path_of_dir dir.new ≡ path_of_dir dir.old }
     ensures began { held_before W.contents editor.new ≡ held_before W.contents editor.old }
 {
@@ -97,7 +96,11 @@ fn tell_dir<W: Write + Drop>(
     let number = digits.format(node.changed.get()).as_bytes();
     editor.dir_prop(dir, &names.number, Some(number))?;
     editor.dir_prop(dir, &names.date, revision_prop(facts, node, b"svn:date"))?;
-    editor.dir_prop(dir, &names.author, revision_prop(facts, node, b"svn:author"))?;
+    editor.dir_prop(
+        dir,
+        &names.author,
+        revision_prop(facts, node, b"svn:author"),
+    )?;
     editor.dir_prop(dir, &names.identity, Some(facts.identity))
 }
 
@@ -111,7 +114,6 @@ fn tell_file<W: Write + Drop>(
 ) -> Result<(), EditorFault>
     ensures shown { OnOk result (Adds (Shows W.contents) editor.old editor.new
         (given (call.FileProp (path_of_file file.old)) (entry_props facts.now node.now))) }
-    ensures refused { IfErr result (λ e. e ≡ PeerFailed) }
     ensures baton { path_of_file file.new ≡ path_of_file file.old }
     ensures began { held_before W.contents editor.new ≡ held_before W.contents editor.old }
 {
@@ -119,7 +121,11 @@ fn tell_file<W: Write + Drop>(
     let number = digits.format(node.changed.get()).as_bytes();
     editor.file_prop(file, &names.number, Some(number))?;
     editor.file_prop(file, &names.date, revision_prop(facts, node, b"svn:date"))?;
-    editor.file_prop(file, &names.author, revision_prop(facts, node, b"svn:author"))?;
+    editor.file_prop(
+        file,
+        &names.author,
+        revision_prop(facts, node, b"svn:author"),
+    )?;
     editor.file_prop(file, &names.identity, Some(facts.identity))
 }
 
@@ -134,7 +140,6 @@ fn entered<W: Write + Drop>(
     requires { path_of_dir dir ≡ path.now }
     ensures shown { OnOk result
         (Adds (Shows W.contents) editor.old editor.new (entry_calls facts.now call.DirProp path.now)) }
-    ensures refused { IfErr result (λ e. e ≡ PeerFailed) }
     ensures baton { IfOk result (λ d. path_of_dir d ≡ path.now) }
     ensures began { held_before W.contents editor.new ≡ held_before W.contents editor.old }
 {
@@ -162,7 +167,6 @@ fn started<W: Write + Drop>(
     requires { path_of_file file ≡ path.now }
     ensures shown { OnOk result
         (Adds (Shows W.contents) editor.old editor.new (entry_calls facts.now call.FileProp path.now)) }
-    ensures refused { IfErr result (λ e. e ≡ PeerFailed) }
     ensures baton { IfOk result (λ f. path_of_file f ≡ path.now) }
     ensures began { held_before W.contents editor.new ≡ held_before W.contents editor.old }
 {
@@ -200,7 +204,8 @@ impl<'a, W: Write + Drop> Editor for UpdateEditor<'a, W> {
 
     ghost done_began = { done_begun_with W.contents };
 
-    ghost refuses = { λ held calls c e. e ≡ PeerFailed };
+    // Why a call is refused isn't said.
+    ghost refuses = { λ begun calls c e. Unit {0} };
 
     fn target(&mut self, _rev: RevNo) -> Result<(), EditorFault> {
         self.inner.target(self.facts.number)

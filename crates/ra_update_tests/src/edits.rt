@@ -1,6 +1,7 @@
 //! Edits that `svnserve` sent for updates, with tokens, texts and the order of entries as they are written here.
 
-pub const FRESH: &[u8] = b"( target-rev ( 3 ) ) ( open-root ( ( 3 ) 2:t0 ) ) ( change-dir-prop ( 2:t0 \
+pub const FRESH: &[u8] =
+    b"( target-rev ( 3 ) ) ( open-root ( ( 3 ) 2:t0 ) ) ( change-dir-prop ( 2:t0 \
     23:svn:entry:committed-rev ( 1:3 ) ) ) ( change-dir-prop ( 2:t0 24:svn:entry:committed-date ( \
     27:2020-01-01T00:50:00.023757Z ) ) ) ( change-dir-prop ( 2:t0 21:svn:entry:last-author ( 5:carol ) \
     ) ) ( change-dir-prop ( 2:t0 14:svn:entry:uuid ( 36:6a1f0c3e-0000-4000-8000-0000000000a1 ) ) ) ( \
@@ -36,7 +37,8 @@ pub const FRESH: &[u8] = b"( target-rev ( 3 ) ) ( open-root ( ( 3 ) 2:t0 ) ) ( c
     close-file ( 2:t6 ( 32:d41d8cd98f00b204e9800998ecf8427e ) ) ) ( close-dir ( 2:t5 ) ) ( close-dir ( \
     2:t2 ) ) ( close-dir ( 2:t0 ) ) ( close-edit ( ) ) ";
 
-pub const FORWARD: &[u8] = b"( target-rev ( 3 ) ) ( open-root ( ( 1 ) 2:t0 ) ) ( change-dir-prop ( 2:t0 \
+pub const FORWARD: &[u8] =
+    b"( target-rev ( 3 ) ) ( open-root ( ( 1 ) 2:t0 ) ) ( change-dir-prop ( 2:t0 \
     23:svn:entry:committed-rev ( 1:3 ) ) ) ( change-dir-prop ( 2:t0 24:svn:entry:committed-date ( \
     27:2020-01-01T00:50:00.023757Z ) ) ) ( change-dir-prop ( 2:t0 21:svn:entry:last-author ( 5:carol ) \
     ) ) ( change-dir-prop ( 2:t0 14:svn:entry:uuid ( 36:6a1f0c3e-0000-4000-8000-0000000000a1 ) ) ) ( \
@@ -69,7 +71,8 @@ pub const FORWARD: &[u8] = b"( target-rev ( 3 ) ) ( open-root ( ( 1 ) 2:t0 ) ) (
     32:d41d8cd98f00b204e9800998ecf8427e ) ) ) ( close-dir ( 2:t4 ) ) ( close-dir ( 2:t1 ) ) ( close-dir \
     ( 2:t0 ) ) ( close-edit ( ) ) ";
 
-pub const BACK: &[u8] = b"( target-rev ( 1 ) ) ( open-root ( ( 3 ) 2:t0 ) ) ( change-dir-prop ( 2:t0 \
+pub const BACK: &[u8] =
+    b"( target-rev ( 1 ) ) ( open-root ( ( 3 ) 2:t0 ) ) ( change-dir-prop ( 2:t0 \
     23:svn:entry:committed-rev ( 1:1 ) ) ) ( change-dir-prop ( 2:t0 24:svn:entry:committed-date ( \
     27:2020-01-01T00:16:40.007919Z ) ) ) ( change-dir-prop ( 2:t0 21:svn:entry:last-author ( 5:alice ) \
     ) ) ( change-dir-prop ( 2:t0 14:svn:entry:uuid ( 36:6a1f0c3e-0000-4000-8000-0000000000a1 ) ) ) ( \
@@ -97,7 +100,8 @@ pub const BACK: &[u8] = b"( target-rev ( 1 ) ) ( open-root ( ( 3 ) 2:t0 ) ) ( ch
     32:1ccb9ebc08e51c65b99fa5f74657100a ) ) ) ( close-dir ( 2:t3 ) ) ( delete-entry ( 9:trunk/new ( 3 ) \
     2:t1 ) ) ( close-dir ( 2:t1 ) ) ( close-dir ( 2:t0 ) ) ( close-edit ( ) ) ";
 
-pub const ONE_FORWARD: &[u8] = b"( target-rev ( 2 ) ) ( open-root ( ( 1 ) 2:t0 ) ) ( change-dir-prop ( 2:t0 \
+pub const ONE_FORWARD: &[u8] =
+    b"( target-rev ( 2 ) ) ( open-root ( ( 1 ) 2:t0 ) ) ( change-dir-prop ( 2:t0 \
     23:svn:entry:committed-rev ( 1:2 ) ) ) ( change-dir-prop ( 2:t0 24:svn:entry:committed-date ( \
     27:2020-01-01T00:33:20.015838Z ) ) ) ( change-dir-prop ( 2:t0 21:svn:entry:last-author ( 3:bob ) ) \
     ) ( change-dir-prop ( 2:t0 14:svn:entry:uuid ( 36:6a1f0c3e-0000-4000-8000-0000000000a1 ) ) ) ( \
@@ -118,9 +122,9 @@ pub const ONE_FORWARD: &[u8] = b"( target-rev ( 2 ) ) ( open-root ( ( 1 ) 2:t0 )
     36:6a1f0c3e-0000-4000-8000-0000000000a1 ) ) ) ( delete-entry ( 13:trunk/lib/a.c ( 1 ) 2:t3 ) ) ( \
     close-dir ( 2:t3 ) ) ( close-dir ( 2:t1 ) ) ( close-dir ( 2:t0 ) ) ( close-edit ( ) ) ";
 
-pub const SAME: &[u8] = b"( target-rev ( 3 ) ) ( open-root ( ( 3 ) 2:t0 ) ) ( change-dir-prop ( 2:t0 \
+pub const SAME: &[u8] =
+    b"( target-rev ( 3 ) ) ( open-root ( ( 3 ) 2:t0 ) ) ( change-dir-prop ( 2:t0 \
     23:svn:entry:committed-rev ( 1:3 ) ) ) ( change-dir-prop ( 2:t0 24:svn:entry:committed-date ( \
     27:2020-01-01T00:50:00.023757Z ) ) ) ( change-dir-prop ( 2:t0 21:svn:entry:last-author ( 5:carol ) \
     ) ) ( change-dir-prop ( 2:t0 14:svn:entry:uuid ( 36:6a1f0c3e-0000-4000-8000-0000000000a1 ) ) ) ( \
     close-dir ( 2:t0 ) ) ( close-edit ( ) ) ";
-

@@ -1,12 +1,12 @@
 -- The changes that differences are have the new tree for their effect on the old one.
-use Rattle.std.proofs.Common.{◌≡◌, ℕ, Bool, true, false, true≢false, append-nil, unwrap_or, cond, not, ◌&&◌, ◌||◌, T, List, [], ◌∷◌, ◌++◌, map, Option, Some, None, IsSome, IsNone, IsSomeAnd, is_some, refl, sym, ap, subst, ◌∙◌}
+use Rattle.std.proofs.Common.{◌≡◌, ℕ, Bool, true, false, true≢false, append-nil, unwrap_or, cond, not, ◌&&◌, ◌||◌, T, List, [], ◌∷◌, ◌++◌, Option, Some, None, IsSome, IsNone, IsSomeAnd, is_some, refl, sym, ap, subst, ◌∙◌}
 use Rattle.std.specs.Option.{option_map, option_map_or, option_and_then, option_or}
 use Rattle.std.specs.FinMap as finite
 use Rattle.std.specs.FinMap.{find, is_sorted}
 use Rattle.std.specs.FinMap.Entries.{below_all}
 use Rattle.node_base.specs.Path.{Name, Path, path_cmp, same_path, rest_after}
-use Rattle.node_base.proofs.PathLemmas.{path_of_same, same_path_back, rest_after-append, same_path_itself}
-use Rattle.node_base.specs.Tree.{PathMap, HasFronts, IsDirAt, numbered, blank, kind_of, alone, base, blocked}
+use Rattle.node_base.proofs.PathLemmas.{path_of_same, same_path_back, rest_after-append}
+use Rattle.node_base.specs.Tree.{PathMap, HasFronts, numbered, blank, kind_of, base, blocked}
 use Rattle.node_base.specs.declared.node.Node.{Node}
 use Rattle.node_base.specs.declared.node.NodeKind.TheVariants.{File, Dir}
 use Rattle.path_tree.specs.JoinedLemmas.{both_true}
@@ -14,15 +14,13 @@ use Rattle.path_tree.proofs.Fronts.{fronts_all}
 use Rattle.dump_load.specs.declared.change.Change.{Change}
 use Rattle.dump_load.specs.Changes.{settles, change_at, settling, deepest, governing}
 use Rattle.dump_load.specs.Effect.{brought, laid, with_parts, parted, is_numbered, effect}
-use Rattle.tree_reports.specs.declared.depth.Depth.TheVariants.{Infinity}
 use Rattle.tree_reports.specs.declared.difference.Parts.{Parts}
 use Rattle.tree_reports.specs.Applied.{Content, content, takes_below, goes_with, becomes, applied, Make}
 use Rattle.tree_reports.specs.Applied as make
 use Rattle.node_base.specs.Props.{PropMap}
 use Rattle.node_base.specs.declared.node.Action.{Action}
 use Rattle.node_base.specs.declared.node.Action.TheVariants.{Add, Replace}
-use Rattle.tree_reports.specs.Depths.{within}
-use Rattle.tree_reports.specs.Differences.{Told, Removed, Added, Replaced, Changed, told_both, told_same_kind, parts_of, are_other_kinds, told, told_at, AreDifferences}
+use Rattle.tree_reports.specs.Differences.{Told, Removed, Added, Replaced, Changed, told_same_kind, parts_of, are_other_kinds, told, told_at, AreDifferences}
 use Rattle.tree_reports.proofs.Merges.{find_below}
 use Rattle.tree_changes.specs.Changes.{told_change, change_of, changes_of}
 use Rattle.tree_changes.specs.Changes as changes
@@ -107,11 +105,11 @@ deepest_at f (n ∷ q) x h = ap (λ o. option_or o (f [])) (deepest_at (λ p. f 
 -- what is found stands at a front
 deepest_front : {A : Type 0} (f : Path → Option A) (q : Path) (x : A) → deepest f q ≡ Some x → (p r : Path) × (q ≡ p ++ r) × (f p ≡ Some x)
 deepest_front f [] x h = ([], [], refl, h)
-deepest_front {A} f (n ∷ q) x h = by (deepest (λ p. f (n ∷ p)) q) refl h
+deepest_front {A} f (n ∷ q) x h = by (deepest (λ p. f (n ∷ p)) q) refl h (λ e. deepest_front (λ p. f (n ∷ p)) q x e)
   where
-    by : (o : Option A) → deepest (λ p. f (n ∷ p)) q ≡ o → option_or o (f []) ≡ Some x → (p r : Path) × (n ∷ q ≡ p ++ r) × (f p ≡ Some x)
-    by None is h = ([], n ∷ q, refl, h)
-    by (Some y) is h = let found = deepest_front (λ p. f (n ∷ p)) q x (is ∙ h) in (n ∷ found.0, found.1, ap (λ z. n ∷ z) found.2, found.3)
+    by : (o : Option A) → deepest (λ p. f (n ∷ p)) q ≡ o → option_or o (f []) ≡ Some x → (deepest (λ p. f (n ∷ p)) q ≡ Some x → (p r : Path) × (q ≡ p ++ r) × (f (n ∷ p) ≡ Some x)) → (p r : Path) × (n ∷ q ≡ p ++ r) × (f p ≡ Some x)
+    by None is h below = ([], n ∷ q, refl, h)
+    by (Some y) is h below = let found = below (is ∙ h) in (n ∷ found.0, found.1, ap (λ z. n ∷ z) found.2, found.3)
 
 or_swap : (a b : Bool) → (a || b) ≡ (b || a)
 or_swap true true = refl
@@ -164,13 +162,11 @@ is_some_kept q (Some t) = elim (settled t) as (λ b. is_some (cond b (Some (told
 -- what is kept is what is told there
 kept_is : (q : Path) (o : Option Told) (c : Change) → option_and_then (kept q) o ≡ Some c → (t : Told) × (c ≡ told_change q t)
 kept_is q None c e = cc
-kept_is q (Some t) c = elim (settled t) as (λ b. cond b (Some (told_change q t)) None ≡ Some c → (t : Told) × (c ≡ told_change q t)) [
-  | true ↦ λ e. (t, some_is e)
-  | false ↦ λ e. cc
-]
+kept_is q (Some t) c e = by (settled t) e
   where
-    some_is : {X : Type 0} {a b : X} → Some a ≡ Some b → b ≡ a
-    some_is e = cc
+    by : (b : Bool) → cond b (Some (told_change q t)) None ≡ Some c → (t : Told) × (c ≡ told_change q t)
+    by true e = (t, cc)
+    by false e = cc
 
 kept_settled : (q : Path) (t : Told) → settled t ≡ true → kept q t ≡ Some (told_change q t)
 kept_settled q t e = ap (λ b. cond b (Some (told_change q t)) None) e

@@ -1,18 +1,17 @@
 -- All of a tree is looked at, and what the changes between two trees are and make.
-use Rattle.std.proofs.Common.{◌≡◌, List, [], ◌∷◌, Option, Some, None, refl, subst, sym}
+use Rattle.std.proofs.Common.{◌≡◌, List, [], ◌∷◌, Option, Some, None, refl, subst}
 use Rattle.std.specs.Option.{option_and_then, option_map}
 use Rattle.std.specs.FinMap as finite
-use Rattle.node_base.specs.Path.{Name, Path}
+use Rattle.node_base.specs.Path.{Path}
 use Rattle.node_base.specs.Tree.{PathMap, IsTree}
 use Rattle.node_base.specs.declared.node.Node.{Node}
-use Rattle.dump_load.specs.declared.change.Change.{Change}
 use Rattle.dump_load.specs.Effect.{effect}
 use Rattle.tree_reports.specs.declared.depth.Depth.TheVariants.{Infinity}
-use Rattle.tree_reports.specs.Applied.{content, Make}
-use Rattle.tree_reports.specs.Depths.{within, is_within}
+use Rattle.tree_reports.specs.Applied.{content}
+use Rattle.tree_reports.specs.Depths.{within}
 use Rattle.tree_reports.specs.Differences.{Told, AreDifferences}
 use Rattle.tree_reports.proofs.Applies.{differences_make}
-use Rattle.tree_changes.specs.Changes.{changes_of, Between, AreBetween}
+use Rattle.tree_changes.specs.Changes.{changes_of, Between}
 use Rattle.tree_changes.proofs.Effects.{effect_makes}
 
 all_there : (o : Option Node) → option_and_then (λ x. Some x) o ≡ o

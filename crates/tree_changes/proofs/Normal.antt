@@ -1,27 +1,23 @@
 -- The changes that differences are, are normal, and their paths are within the limits.
-use Rattle.std.proofs.Common.{◌≡◌, Bool, true, false, true≢false, cond, not, ◌&&◌, ◌||◌, T, List, [], ◌∷◌, ◌++◌, map, Option, Some, None, IsSome, IsNone, IsSomeAnd, is_some, refl, sym, ap, subst, ◌∙◌, append-nil}
-use Rattle.std.specs.Option.{option_map, option_map_or}
+use Rattle.std.proofs.Common.{◌≡◌, Bool, true, false, true≢false, cond, not, ◌&&◌, T, List, [], ◌∷◌, ◌++◌, Option, Some, None, IsSome, is_some, refl, sym, ap, subst, ◌∙◌, append-nil}
+use Rattle.std.specs.Option.{option_map_or}
 use Rattle.std.specs.List.{AllByRecursion}
 use Rattle.std.specs.FinMap as finite
 use Rattle.std.specs.FinMap.{find, is_sorted}
 use Rattle.std.specs.FinMap.Entries.{below_all}
 use Rattle.std.specs.declared.cmp.Ordering.TheVariants.{Less}
-use Rattle.node_base.specs.Limits.{fits}
 use Rattle.node_base.specs.Path.{Name, Path, path_cmp, same_path, is_front, rest_after}
 use Rattle.node_base.proofs.PathLemmas.{path_of_same, same_path_itself, append_of_rest}
 use Rattle.node_base.specs.Path.{paths_total}
 use Rattle.std.proofs.lemmas.Cmp.{tied_itself}
-use Rattle.node_base.specs.Tree.{PathMap, HasFronts, IsDirAt, IsTree, blocked}
+use Rattle.node_base.specs.Tree.{PathMap, HasFronts, IsTree, blocked}
 use Rattle.node_base.specs.declared.fault.TreeFault.TheVariants.{NoSuchPath, NotDir}
-use Rattle.node_base.specs.declared.node.Action.{Action}
-use Rattle.node_base.specs.declared.node.Action.TheVariants.{Add, Replace}
 use Rattle.node_base.specs.declared.node.Node.{Node}
 use Rattle.node_base.specs.declared.node.NodeKind.TheVariants.{File, Dir}
 use Rattle.path_tree.specs.JoinedLemmas.{both_true, less_than}
 use Rattle.path_tree.proofs.Fronts.{nothing_below}
-use Rattle.dump_load.specs.declared.change.Change.{Change}
-use Rattle.dump_load.specs.Changes.{is_delete, is_plain, is_described, IsWhole, Precedes, IsNormal}
-use Rattle.tree_reports.specs.Differences.{Told, Removed, Added, Replaced, Changed, told_both, told_same_kind, parts_of, are_other_kinds, told, told_at, AreDifferences}
+use Rattle.dump_load.specs.Changes.{is_delete, is_described, IsWhole, Precedes, IsNormal}
+use Rattle.tree_reports.specs.Differences.{Told, Removed, Added, Replaced, Changed, parts_of, are_other_kinds, told, told_at, AreDifferences}
 use Rattle.tree_reports.proofs.Merges.{find_below}
 use Rattle.tree_changes.specs.Changes.{told_change, change_of, changes_of, Fits}
 
@@ -80,21 +76,23 @@ whole e = by e.0 e.1
 
 blocked_below : (g : Path → Option Node) (p : Path) (n : Name) (r : Path) → g p ≡ None → is_some (blocked g (p ++ n ∷ r)) ≡ true
 blocked_below g [] n r h = ap (λ o. is_some (option_map_or (λ x. cond (is_some x.text) (Some NotDir) (blocked (λ q. g (n ∷ q)) r)) o (Some NoSuchPath))) h
-blocked_below g (m ∷ p) n r h = by (g [])
+blocked_below g (m ∷ p) n r h = by (g []) (blocked_below (λ q. g (m ∷ q)) p n r h)
   where
-    by : (o : Option Node) → is_some (option_map_or (λ x. cond (is_some x.text) (Some NotDir) (blocked (λ q. g (m ∷ q)) (p ++ n ∷ r))) o (Some NoSuchPath)) ≡ true
-    by None = refl
-    by (Some x) = elim (is_some x.text) as (λ b. is_some (cond b (Some NotDir) (blocked (λ q. g (m ∷ q)) (p ++ n ∷ r))) ≡ true) [ true ↦ refl | false ↦ blocked_below (λ q. g (m ∷ q)) p n r h ]
+    by : (o : Option Node) → is_some (blocked (λ q. g (m ∷ q)) (p ++ n ∷ r)) ≡ true → is_some (option_map_or (λ x. cond (is_some x.text) (Some NotDir) (blocked (λ q. g (m ∷ q)) (p ++ n ∷ r))) o (Some NoSuchPath)) ≡ true
+    by None below = refl
+    by (Some x) below = elim (is_some x.text) as (λ b. is_some (cond b (Some NotDir) (blocked (λ q. g (m ∷ q)) (p ++ n ∷ r))) ≡ true) [ true ↦ refl | false ↦ below ]
 
 -- what goes isn't there any more
 removed_is_gone : (o u : Option Node) (b : Bool) → told o u b ≡ Some Removed → u ≡ None
 removed_is_gone None None b e = refl
 removed_is_gone None (Some y) b e = cc
 removed_is_gone (Some x) None b e = refl
-removed_is_gone (Some x) (Some y) b = elim (are_other_kinds (is_some x.text) (is_some y.text)) as (λ k. cond k (Some (Replaced y)) (told_same_kind y (parts_of x y)) ≡ Some Removed → Some y ≡ None) [
-  | true ↦ λ e. cc
-  | false ↦ elim (not (parts_of x y).props && not (parts_of x y).text) as (λ k. cond k None (Some (Changed y (parts_of x y))) ≡ Some Removed → Some y ≡ None) [ true ↦ λ e. cc | false ↦ λ e. cc ]
-]
+removed_is_gone (Some x) (Some y) b e = by (are_other_kinds (is_some x.text) (is_some y.text)) (not (parts_of x y).props && not (parts_of x y).text) e
+  where
+    by : (k l : Bool) → cond k (Some (Replaced y)) (cond l None (Some (Changed y (parts_of x y)))) ≡ Some Removed → Some y ≡ None
+    by true l e = cc
+    by false true e = cc
+    by false false e = cc
 
 told_none : (o : Option Node) → told o None true ≡ None
 told_none None = refl
@@ -134,9 +132,9 @@ module _ (f g : Path → Option Node) (hg : HasFronts g) (es : List (Path × Tol
 
   precedes : (e x : Path × Told) → IsFound es e → IsFound es x → path_cmp e.0 x.0 ≡ Less → Precedes (change_of e) (change_of x)
   precedes e x is there less = record {
-      rises = (λ i. path_cmp (path_of_change e.0 e.1 i) (path_of_change x.0 x.1 i)) ∙ less;
-      stands = λ deletes. (λ i. is_front (path_of_change e.0 e.1 i) (path_of_change x.0 x.1 i)) ∙ no_front e x is there less deletes;
-    }
+    rises = (λ i. path_cmp (path_of_change e.0 e.1 i) (path_of_change x.0 x.1 i)) ∙ less;
+    stands = λ deletes. (λ i. is_front (path_of_change e.0 e.1 i) (path_of_change x.0 x.1 i)) ∙ no_front e x is there less deletes;
+  }
 
   all_precede : (e : Path × Told) (xs : List (Path × Told)) → IsFound es e → AllByRecursion (IsFound es) xs → T (below_all path_cmp e.0 xs) → AllByRecursion (Precedes (change_of e)) (changes_of xs)
   all_precede e [] is there below = tt

@@ -1,6 +1,6 @@
 -- The changes that differences of two trees are.
 use Rattle.std.specs.FinMap as finite
-use Rattle.std.specs.Prelude.{◌≡◌, Bool, true, List, map, Option, Some, None, if◌then◌else◌}
+use Rattle.std.specs.Prelude.{◌≡◌, true, List, map, Some, None, if◌then◌else◌}
 use Rattle.node_base.specs.Limits.{fits}
 use Rattle.node_base.specs.Path.{Path}
 use Rattle.node_base.specs.Tree.{PathMap, kind_of}

@@ -18,7 +18,6 @@ use tree_reports::{Depth, Difference, differences};
 /// The changes that make the new tree of the old one: one for each path at which they differ, in path order. A node
 /// that comes is given with all its properties and its text, and one that stays with the parts that differ. The nodes'
 /// numbers don't count. Texts and properties are shared with the trees.
-#[tactic(auto, using(crate::proofs::Makes::all_within))]
 pub fn changes_between(alloc: Global, old: &Tree, new: &Tree) -> Result<Vec<Change>, AllocError>
     ensures between { IfOk result (λ cs. AreBetween old.now new.now cs.items) }
     ensures normal { IfOk result (λ cs. IsNormal cs.items) }

@@ -12,21 +12,14 @@ use std::alloc::{AllocError, Global};
 use tree_reports::{Change as Told, Difference, Parts};
 
 /// The changes that differences are. Properties and texts are shared with the trees.
-pub fn changes_of(
-    alloc: Global,
-    differences: &[Difference<'_>],
-) -> Result<Vec<Change>, AllocError>
+#[tactic(auto, using(crate::proofs::Paths::fit_at))]
+pub fn changes_of(alloc: Global, differences: &[Difference<'_>]) -> Result<Vec<Change>, AllocError>
     requires { AllByRecursion Fits (shown differences.now) }
     ensures { IfOk result (λ cs. cs.items ≡ map change_of (shown differences.now)) }
 {
     let mut changes = Vec::with_capacity(alloc, differences.len())?;
-    let mut rest = differences;
-    while rest.len() > 0 {
-        let Some((first, others)) = rest.split_first() else {
-            unreachable!()
-        };
-        changes.push(change_of(alloc, first)?)?;
-        rest = others;
+    for difference in differences {
+        changes.push(change_of(alloc, difference)?)?;
     }
     Ok(changes)
 }

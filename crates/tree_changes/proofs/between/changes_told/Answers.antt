@@ -1,12 +1,11 @@
-use Rattle.std.proofs.Common.{◌≡◌, List, [], ◌∷◌, map, Ok, Err, IfOk, sym, subst}
+use Rattle.std.proofs.Common.{◌≡◌, [], ◌∷◌, map, Ok, Err, IfOk, sym, subst}
 use Rattle.std.specs.Option.{option_map}
 use Rattle.std.specs.FinMap as finite
 use Rattle.node_base.specs.Path.{Path}
-use Rattle.node_base.specs.Tree.{PathMap}
 use Rattle.dump_load.specs.Changes.{IsNormal}
 use Rattle.dump_load.specs.Effect.{effect}
 use Rattle.tree_reports.specs.Applied.{content}
-use Rattle.tree_reports.specs.Differences.{Told, shown}
+use Rattle.tree_reports.specs.Differences.{shown}
 use Rattle.tree_changes.specs.Changes.{change_of, AreBetween}
 use Rattle.tree_changes.proofs.Makes.{effect_between}
 use Rattle.tree_changes.proofs.Normal.{normal, paths_fit}

@@ -1,0 +1,8 @@
+use Rattle.delta_editor.specs.declared.call.Call.TheVariants as call
+use Rattle.ra_update.specs.Updated.{path_of_file}
+use Rattle.ra_update.proofs.Nested.{carried_ok}
+use Rattle.ra_update.proofs.editor.UpdateEditorEditor.text_piece.Goals as goal
+
+pub returns-clause-shown : goal.returns-clause-shown
+returns-clause-shown g c =
+    carried_ok g.W.Write.contents c.args.self.now.inner c.text_piece.new.self c.args.self.now.facts.now (call.TextPiece (path_of_file c.args.file.now) c.args.piece.now) c.text_piece.result c.text_piece.ensures.shown

@@ -1,0 +1,30 @@
+use Rattle.std.proofs.Common.{◌∙◌, ℕ, List, Some, refl, ap}
+use Rattle.std.specs.Option.{option_map}
+use Rattle.std.specs.Fmt.{decimal}
+use Rattle.delta_editor.specs.declared.call.Call.TheVariants as call
+use Rattle.ra_edit.specs.Wire.{Shows}
+use Rattle.ra_update.specs.Entries.{given, entry_props}
+use Rattle.ra_update.specs.Updated.{path_of_file}
+use Rattle.ra_update.proofs.Nested.{four_told, entries_are}
+use Rattle.ra_update.proofs.editor.tell_file.Goals as goal
+
+pub returns-clause-shown : goal.returns-clause-shown
+returns-clause-shown g c =
+    let k = c.args.facts.now in
+    let x = c.args.node.now in
+    let names = c.args.names.now in
+    let p = path_of_file c.args.file.now in
+    let p1 = path_of_file c.file_prop.new.file in
+    let p2 = path_of_file c.file_prop-2.new.file in
+    let p3 = path_of_file c.file_prop-3.new.file in
+    let v = Some c.as_bytes-number.result.now in
+    let w = option_map (λ b. b.now) c.revision_prop.result in
+    let y = option_map (λ b. b.now) c.revision_prop-2.result in
+    four_told (Shows g.W.Write.contents) c.args.editor.now c.file_prop.new.self c.file_prop-2.new.self c.file_prop-3.new.self c.file_prop-4.new.self
+    (call.FileProp p names.number v) (call.FileProp p1 names.date w) (call.FileProp p2 names.author y) (call.FileProp p3 names.identity (Some k.identity.now))
+    (given (call.FileProp p) (entry_props k x)) c.file_prop-4.result
+    (entries_are call.FileProp k x p p1 p2 p3 names.number names.date names.author names.identity v w y (Some k.identity.now)
+    c.in_ok-file_prop.ensures.baton (c.in_ok-file_prop-2.ensures.baton ∙ c.in_ok-file_prop.ensures.baton) (c.in_ok-file_prop-3.ensures.baton ∙ c.in_ok-file_prop-2.ensures.baton ∙ c.in_ok-file_prop.ensures.baton)
+    names.of_number names.of_date names.of_author names.of_identity
+    (ap (λ (t : List ℕ). Some t) (c.as_bytes-number.ensures.value ∙ c.format.ensures.text ∙ ap decimal c.get.ensures.number)) c.revision_prop.ensures c.revision_prop-2.ensures refl)
+    c.in_ok-file_prop.ensures.shown c.in_ok-file_prop-2.ensures.shown c.in_ok-file_prop-3.ensures.shown c.file_prop-4.ensures.shown
