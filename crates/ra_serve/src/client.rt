@@ -14,8 +14,8 @@ use std::io;
 use std::io::{ErrorKind, Write};
 use std::marker::PhantomData;
 
-/// The items that a client sends who is told by an output of this type. The next one is awaited only where all that
-/// was written is handed on: no other call takes an item.
+/// The items of a client that is told by an output of this type. The next one is awaited only where all that was written
+/// is handed on: no other call takes an item.
 #[derive(Drop)]
 pub struct ClientItems<I: Input + Drop, O> {
     items: ItemStream<I>,
@@ -45,7 +45,7 @@ impl<I: Input + Drop, O: Output> ClientItems<I, O> {
         items
     }
 
-    /// The next item, which the client sends once it has all that it was told.
+    /// The next item, once the client has all that it was told.
     pub fn next(&mut self, out: &O) -> Result<Option<Item>, NextFault>
         requires handed { O.is_handed_on out.now }
         ensures answer { Answers I.remaining I.failures I.reads (items_of self.old) (items_of self.new) result }

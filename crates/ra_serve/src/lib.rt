@@ -3,6 +3,7 @@
 //! [`serve`] answers one session from any [`RepoPort`]; [`HeldRepo`] and [`HeldStore`] are the ports over a repository
 //! in memory and one on a disk. What is written goes out command by command, and a replay revision by revision: no
 //! answer is composed whole. That of `get-dir`, which may be refused by its length, is measured before it is written.
+//! The client's items come by [`ClientItems`], so each answer is handed on before the next one is awaited.
 //!
 //! `specs/Answers` has what each command is refused and told, and `specs/Sessions` what a whole session is; the clause
 //! `served` of [`serve`] is on these.

@@ -117,21 +117,31 @@ fn is_session(bytes: &[u8], whole: bool) -> bool {
     }
 }
 
+// How a session ends that is served to a writer into this place.
+fn ended_into(
+    alloc: Global,
+    port: &mut HeldRepo,
+    size: usize,
+    bytes: &mut Vec<u8>,
+) -> Result<End, ServeFault> {
+    let mut items = items_from(alloc, SENT, size, u64::MAX);
+    let out = CountedWriter::new(Held {
+        bytes,
+        closed: false,
+    });
+    match serve(alloc, port, URL, &mut items, out) {
+        Ok((_out, end)) => Ok(end),
+        Err(unserved) => Err(unserved.fault),
+    }
+}
+
 // Whether a session is served into a place that doesn't grow, with refusals of the port's or without, or given up at a
 // growth that is refused.
 fn is_served(alloc: Global, port: &mut HeldRepo, size: usize) -> bool {
     let Ok(mut bytes) = Vec::with_capacity(alloc, 2_048) else {
         return true;
     };
-    let mut items = items_from(alloc, SENT, size, u64::MAX);
-    let out = CountedWriter::new(Held {
-        bytes: &mut bytes,
-        closed: false,
-    });
-    let ended = match serve(alloc, port, URL, &mut items, out) {
-        Ok((_out, end)) => Ok(end),
-        Err(unserved) => Err(unserved.fault),
-    };
+    let ended = ended_into(alloc, port, size, &mut bytes);
     match ended {
         Ok(end) => end == End::Input && is_session(bytes.as_slice(), true),
         Err(fault) => fault == ServeFault::OutOfMemory && is_session(bytes.as_slice(), false),
