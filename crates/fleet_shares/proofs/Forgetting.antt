@@ -30,12 +30,12 @@ at_number (suc (suc zero)) a b c d = refl
 at_number (suc (suc (suc zero))) a b c d = refl
 at_number (suc (suc (suc (suc n)))) a b c d = refl
 
-answer_at : (b c : Bool) (May Ended : Type 0) (a : Answer) → b ≡ c → (b ≡ true → May → Ended) → IsAnswerAt b May a → IsAnswerAt c Ended a
-answer_at false false May Ended a e f h = h
-answer_at false true May Ended a e f h = absurd (true≢false (sym e))
-answer_at true false May Ended a e f h = absurd (true≢false e)
-answer_at true true May Ended a e f (inl m) = inl (f refl m)
-answer_at true true May Ended a e f (inr x) = inr x
+answer_at : (b c : Bool) (May Ended : Type 0) (o : Order) (a : Answer) → b ≡ c → (b ≡ true → May → Ended) → IsAnswerAt b May o a → IsAnswerAt c Ended o a
+answer_at false false May Ended o a e f h = h
+answer_at false true May Ended o a e f h = absurd (true≢false (sym e))
+answer_at true false May Ended o a e f h = absurd (true≢false e)
+answer_at true true May Ended o a e f (inl m) = inl (f refl m)
+answer_at true true May Ended o a e f (inr x) = inr x
 
 pub all_so : (P Q : Order → Answer → Type 0) → ((o : Order) (a : Answer) → P o a → Q o a) → (os : List Order) (as' : List Answer) → AllZip P os as' → AllZip Q os as'
 all_so P Q f [] [] h = tt
@@ -56,7 +56,7 @@ module _ {M L0 L1 L2 L3 D : Type 0} {m : _} {r0 : _} {r1 : _} {r2 : _} {r3 : _} 
       → (o : Order) (a : Answer) → IsAnswered (MayAnswer s) (slots_of s) o a → IsAnswerIn m r0 r1 r2 r3 p o a
   answered_in p e0 e1 e2 e3 o a h =
       let same = at_number o.mirror (is_some s.first) (is_some s.second) (is_some s.third) (is_some s.fourth) in
-      answer_at _ _ _ _ a
+      answer_at _ _ _ _ o a
       (same ∙ (ap (λ b. has_at o.mirror b (is_some s.second) (is_some s.third) (is_some s.fourth)) e0
       ∙ (ap (λ b. has_at o.mirror (is_some p.first) b (is_some s.third) (is_some s.fourth)) e1
       ∙ (ap (λ b. has_at o.mirror (is_some p.first) (is_some p.second) b (is_some s.fourth)) e2

@@ -1,5 +1,5 @@
 -- What comes of shared stores: they have what they had, and a mirror what its last job brought.
-use Rattle.std.proofs.Common.{◌≡◌, ℕ, ◌≤◌, ◌<◌, ◌+◌, length, if◌then◌else◌, zero, suc, Bool, true, false, List, Option, Some, None, Result, Ok, Err, IfOk, IfSome, is_some, refl, sym, ap, subst, ◌∙◌, arith}
+use Rattle.std.proofs.Common.{◌≡◌, ℕ, ◌≤◌, ◌<◌, ◌+◌, length, if◌then◌else◌, zero, suc, Bool, true, false, List, Option, Some, None, Result, Ok, Err, IfOk, is_some, refl, sym, ap, subst, ◌∙◌, arith}
 use Rattle.std.specs.Prelude.{nat_le}
 use Rattle.std.proofs.Math.Logic.{∥∥₁_elim}
 use Rattle.std.proofs.lemmas.Bool.Decides.{nat_tests}
@@ -25,7 +25,7 @@ use Rattle.store_share.specs.declared.rev.Rev.{Rev}
 use Rattle.store_share.specs.declared.seat.ReaderSeat.{ReaderSeat}
 use Rattle.fleet_shares.specs.Agreed.{Adds, AreAgreed, BringsUp, HaveSet, IsFront, IsSameTo}
 use Rattle.fleet_shares.specs.Brought.{AgreeAt, AgreeUpTo, HasSeen}
-use Rattle.fleet_shares.specs.Closing.{brings_at, HasStayed, IsBroughtIn, IsBroughtSince, IsBroughtUp, IsReadBy, IsSettled}
+use Rattle.fleet_shares.specs.Closing.{brings_at, IsBroughtIn, IsBroughtSince, IsBroughtUp, IsReadBy, IsSettled}
 use Rattle.fleet_shares.specs.Heard.{covers}
 use Rattle.fleet_shares.specs.Opening.{stored_in, IsOpenedFrom}
 use Rattle.fleet_shares.specs.declared.brings.Brings.{Brings}
@@ -153,32 +153,35 @@ brings_up old_master old_mirror master mirror first second adds = record {
 }
 
 -- of a slot
-brought_since : {M L D : Type 0} {m : _} {r : _} {g : _} (stays up both : Bool) (theirs : Option (ReaderSeat M m)) (ours : Option (ReaderSeat L r)) (first master : RepoStore D g) (store : Option (RepoStore D g))
-    → both ≡ (if stays then up else false) → master ≡ first → HasStayed stays theirs (repository_of first) → IsSettled up store ours (repository_of first) → IsBroughtSince both theirs ours master store
+brought_since : {M L D : Type 0} {m : _} {r : _} {g : _} (stays up both : Bool) (theirs : ReaderSeat M m) (ours : Option (ReaderSeat L r)) (first master : RepoStore D g) (store : Option (RepoStore D g))
+    → both ≡ (if stays then up else false) → master ≡ first → (stays ≡ true → (x : Repository) → HasSeenAll theirs x → IsFront x (repository_of first)) → IsSettled up store ours (repository_of first) → IsBroughtSince both theirs ours master store
 brought_since false up both theirs ours first master store is same h k = subst (λ b. IsBroughtSince b theirs ours master store) (sym is) tt
 brought_since true false both theirs ours first master store is same h k = subst (λ b. IsBroughtSince b theirs ours master store) (sym is) tt
 brought_since true true both theirs ours first master None is same h k = subst (λ b. IsBroughtSince b theirs ours master None) (sym is) tt
-brought_since true true both None ours first master (Some s) is same h k = absurd h
-brought_since true true both (Some t) None first master (Some s) is same h k = absurd k
-brought_since true true both (Some t) (Some o) first master (Some s) is same h k =
-    subst (λ b. IsBroughtSince b (Some t) (Some o) master (Some s)) (sym is)
-    (subst (λ y. IsBroughtSince true (Some t) (Some o) y (Some s)) (sym same) (λ x z seen all. let both_are = k z all in brings_up x z (repository_of first) (repository_of s) (h x seen) both_are.0 both_are.1))
+brought_since true true both theirs None first master (Some s) is same h k = absurd k
+brought_since true true both theirs (Some o) first master (Some s) is same h k =
+    subst (λ b. IsBroughtSince b theirs (Some o) master (Some s)) (sym is)
+    (subst (λ y. IsBroughtSince true theirs (Some o) y (Some s)) (sym same) (λ x z seen all. let both_are = k z all in brings_up x z (repository_of first) (repository_of s) (h refl x seen) both_are.0 both_are.1))
 
 -- where the master's store was another value of the same
-pub brought_after : {M L D : Type 0} {m : _} {r : _} {g : _} (stays up both : Bool) (theirs : Option (ReaderSeat M m)) (ours : Option (ReaderSeat L r)) (first mid master : RepoStore D g) (store : Option (RepoStore D g))
-    → both ≡ (if stays then up else false) → mid ≡ first → master ≡ first → HasStayed stays theirs (repository_of first) → IsSettled up store ours (repository_of mid) → IsBroughtSince both theirs ours master store
+pub brought_after : {M L D : Type 0} {m : _} {r : _} {g : _} (stays up both : Bool) (theirs : ReaderSeat M m) (ours : Option (ReaderSeat L r)) (first mid master : RepoStore D g) (store : Option (RepoStore D g))
+    → both ≡ (if stays then up else false) → mid ≡ first → master ≡ first → (stays ≡ true → (x : Repository) → HasSeenAll theirs x → IsFront x (repository_of first)) → IsSettled up store ours (repository_of mid) → IsBroughtSince both theirs ours master store
 brought_after {D = D} {g = g} stays up both theirs ours first mid master store is at same h k =
     brought_since stays up both theirs ours first master store is same h (subst (λ (x : RepoStore D g). IsSettled up store ours (repository_of x)) at k)
 
 -- by how it was opened
-pub brought_in : {M L D : Type 0} {m : _} {r : _} {g : _} (up : Bool) (theirs : Option (ReaderSeat M m)) (ours : Option (ReaderSeat L r)) (first : OpenedStore D g) (opened : Option (OpenedMirror D g)) (master : RepoStore D g) (store : Option (RepoStore D g))
-    → IfSome theirs (λ t. HasSeenAll t (repository_of (store_in first))) → IsReadBy opened ours → IsBroughtSince up theirs ours master store → IsBroughtIn up first opened master store
+pub brought_in : {M L D : Type 0} {m : _} {r : _} {g : _} (up : Bool) (theirs : ReaderSeat M m) (ours : Option (ReaderSeat L r)) (first : OpenedStore D g) (opened : Option (OpenedMirror D g)) (master : RepoStore D g) (store : Option (RepoStore D g))
+    → HasSeenAll theirs (repository_of (store_in first)) → IsReadBy opened ours → IsBroughtSince up theirs ours master store → IsBroughtIn up first opened master store
 brought_in false theirs ours first opened master store h k b = tt
 brought_in true theirs ours first None master store h k b = tt
 brought_in true theirs ours first (Some o) master None h k b = tt
-brought_in true None ours first (Some o) master (Some s) h k b = absurd b
-brought_in true (Some t) None first (Some o) master (Some s) h k b = absurd b
-brought_in true (Some t) (Some seat) first (Some o) master (Some s) h k b = b (repository_of (store_in first)) (repository_of (store_in (opened_in o))) h k
+brought_in true theirs None first (Some o) master (Some s) h k b = absurd b
+brought_in true theirs (Some seat) first (Some o) master (Some s) h k b = b (repository_of (store_in first)) (repository_of (store_in (opened_in o))) h k
+
+-- what is so of one of several results, where all of them came
+pub of_all : {A B E : Type 0} (all : Result A E) (one : Result B E) (part : A → B) (P : B → Type 0) → IfOk all (λ r. one ≡ Ok (part r)) → IfOk one P → IfOk all (λ r. P (part r))
+of_all {B = B} {E = E} (Ok r) one part P is h = subst (λ (x : Result B E). IfOk x P) is h
+of_all (Err e) one part P is h = tt
 
 -- by the stores that were given
 brought_one : {D : Type 0} {g : _} (up : Bool) (first : OpenedStore D g) (opened : Option (OpenedMirror D g)) (given master : RepoStore D g) (slot now : Option (RepoStore D g)) → up ≡ true → store_in first ≡ given → stored_in (Ok opened) ≡ slot

@@ -1,5 +1,5 @@
 -- What comes of a fleet's stores.
-use Rattle.std.specs.Prelude.{◌≡◌, ℕ, Bool, true, false, List, Option, Some, None, Ok, IfSome, slice_get}
+use Rattle.std.specs.Prelude.{◌≡◌, ℕ, Bool, true, false, List, Option, Some, None, Ok, slice_get}
 use Rattle.fleet_jobs.specs.Answers.{Answer}
 use Rattle.mirror_share.specs.Names.{opened_in}
 use Rattle.mirror_share.specs.Seen.{HasSeenAll}
@@ -23,24 +23,18 @@ IsSettled true None opened master = Unit {0}
 IsSettled true (Some s) None master = ⊥
 IsSettled true (Some s) (Some seat) master = (x : Repository) → HasSeenAll seat x → IsFront x (repository_of s) × Adds (head_of x.revisions) (repository_of s) master
 
--- a master has what a reader saw when it was opened
-abbrev pub HasStayed : {M : Type 0} {m : _} → Bool → Option (ReaderSeat M m) → Repository → Type 0
-HasStayed false reader master = Unit {0}
-HasStayed true None master = ⊥
-HasStayed true (Some seat) master = (x : Repository) → HasSeenAll seat x → IsFront x master
-
 -- a slot's mirror was brought up to the master since readers of both saw all
-abbrev pub IsBroughtSince : {M L D : Type 0} {m : _} {r : _} {g : _} → Bool → Option (ReaderSeat M m) → Option (ReaderSeat L r) → RepoStore D g → Option (RepoStore D g) → Type 0
-IsBroughtSince false theirs ours master store = Unit {0}
-IsBroughtSince true theirs ours master None = Unit {0}
-IsBroughtSince true None ours master (Some s) = ⊥
-IsBroughtSince true (Some t) None master (Some s) = ⊥
-IsBroughtSince true (Some t) (Some o) master (Some s) = (m x : Repository) → HasSeenAll t m → HasSeenAll o x → BringsUp m x (repository_of master) (repository_of s)
+abbrev pub IsBroughtSince : {M L D : Type 0} {m : _} {r : _} {g : _} → Bool → ReaderSeat M m → Option (ReaderSeat L r) → RepoStore D g → Option (RepoStore D g) → Type 0
+IsBroughtSince false t ours master store = Unit {0}
+IsBroughtSince true t ours master None = Unit {0}
+IsBroughtSince true t None master (Some s) = ⊥
+IsBroughtSince true t (Some o) master (Some s) = (m x : Repository) → HasSeenAll t m → HasSeenAll o x → BringsUp m x (repository_of master) (repository_of s)
 
 -- the reader of an opened mirror has seen all of it
 abbrev pub IsReadBy : {L D : Type 0} {r : _} {g : _} → Option (OpenedMirror D g) → Option (ReaderSeat L r) → Type 0
 IsReadBy None reader = Unit {0}
-IsReadBy (Some o) reader = IfSome reader (λ seat. HasSeenAll seat (repository_of (store_in (opened_in o))))
+IsReadBy (Some o) None = ⊥
+IsReadBy (Some o) (Some seat) = HasSeenAll seat (repository_of (store_in (opened_in o)))
 
 -- a slot's mirror was brought up to the master, by how both were opened and how they are
 abbrev pub IsBroughtIn : {D : Type 0} {g : _} → Bool → OpenedStore D g → Option (OpenedMirror D g) → RepoStore D g → Option (RepoStore D g) → Type 0

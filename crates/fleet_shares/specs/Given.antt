@@ -1,13 +1,16 @@
 -- Orders that are given to a fleet, and the answer of each.
-use Rattle.std.specs.Prelude.{◌≡◌, ◌⊎◌, ℕ, Bool, true, false, List, Vec, Result, [], ◌∷◌, Option, Some, None, Ok, Err, get_or}
+use Rattle.std.specs.Prelude.{◌≡◌, ◌⊎◌, ◌≤◌, ℕ, Bool, true, false, List, Vec, Result, [], ◌∷◌, ◌++◌, length, Option, Some, None, Ok, Err, get_or}
 use Rattle.std.specs.declared.alloc.Global.{Global}
 use Rattle.fleet_jobs.specs.Answers.{Answer}
+use Rattle.fleet_jobs.specs.Fleets.{LeavesWaiting}
 use Rattle.fleet_jobs.specs.declared.fault.FleetFault.{FleetFault}
 use Rattle.fleet_jobs.specs.declared.fault.Refused.{Refused}
 use Rattle.fleet_jobs.specs.declared.fault.Unfinished.{Unfinished}
 use Rattle.fleet_jobs.specs.declared.fault.FleetFault.TheVariants as fleet
 use Rattle.fleet_jobs.specs.declared.order.Order.{Order}
 use Rattle.fleet_jobs.specs.declared.order.Outcome.{Outcome}
+use Rattle.fleet_jobs.specs.declared.order.Ticket.{Ticket}
+use Rattle.fleet_jobs.specs.declared.queue.Hand.{Hand}
 use Rattle.node_base.specs.declared.refusal.Refusal.TheVariants.{Failed, NoRepository}
 use Rattle.sync_core.specs.declared.fault.SyncFault.TheVariants.{Other, OutOfMemory}
 use Rattle.fleet_shares.specs.Faults.{sync_fault}
@@ -41,11 +44,17 @@ answers_of (Some f ∷ ns) outcomes = Err (sync_fault f) ∷ answers_of ns outco
 answers_of (None ∷ ns) [] = Err (Other Failed) ∷ answers_of ns []
 answers_of (None ∷ ns) (x ∷ xs) = x.result ∷ answers_of ns xs
 
+-- no worker was left for an order: it was handed back for that, of which a fleet says no more; or it was accepted, all workers have
+-- ended, what they took is the beginning of what was accepted, and the order stands behind that
+pub data IsLeft (order : Order) : Type 0 where
+  HandedBack : (refused : Refused) → refused.fault ≡ fleet.Failed → refused.order ≡ order → IsLeft order
+  Waits : (giver : Hand) (workers ran : ℕ) (before after : List Ticket) (ticket : Ticket) → LeavesWaiting giver workers (before ++ ticket ∷ after) ran → ran ≤ length before → ticket.order ≡ order → IsLeft order
+
 -- where the slot has a mirror an order is answered as its job may answer it, or no worker was left for it (32), or memory ran out (70);
 -- else it has no repository (34)
-abbrev pub IsAnswerAt : Bool → Type 0 → Answer → Type 0
-IsAnswerAt false May answer = answer ≡ Err (Other NoRepository)
-IsAnswerAt true May answer = May ⊎ (answer ≡ Err (Other Failed)) ⊎ (answer ≡ Err OutOfMemory)
+abbrev pub IsAnswerAt : Bool → Type 0 → Order → Answer → Type 0
+IsAnswerAt false May order answer = answer ≡ Err (Other NoRepository)
+IsAnswerAt true May order answer = May ⊎ ((answer ≡ Err (Other Failed)) × IsLeft order) ⊎ (answer ≡ Err OutOfMemory)
 
 abbrev pub IsAnswered : (Order → Answer → Type 0) → List Bool → Order → Answer → Type 0
-IsAnswered may slots order answer = IsAnswerAt (get_or slots order.mirror false) (may order answer) answer
+IsAnswered may slots order answer = IsAnswerAt (get_or slots order.mirror false) (may order answer) order answer

@@ -1,5 +1,6 @@
 //! Mirrors that are brought up to a master at once.
-ghost use Rattle.std.specs.Prelude.{◌≡◌, ℕ, IfOk, IfSome, is_some, true};
+ghost use Rattle.std.specs.Prelude.{◌≡◌, ℕ, IfErr, IfOk, IfSome, Ok, is_some, true};
+ghost use Rattle.std.specs.Arc.{arc_value};
 ghost use Rattle.std.specs.List.{AllZip};
 ghost use Rattle.mirror_share.specs.Names.{IsNamed};
 ghost use Rattle.store_share.specs.Opened.{cells_of};
@@ -13,7 +14,7 @@ use crate::brings::Brings;
 use crate::opening::opened_fleet;
 use crate::orders::sync_orders;
 use crate::run::{run_shared, unshared};
-use crate::shares::FleetShares;
+use crate::shares::{FleetReaders, FleetShares, Readers};
 use crate::stores::{FleetStores, OpenedFleet};
 use crate::told::tell_all;
 use fleet_disk::Disk;
@@ -135,8 +136,8 @@ fn run_opened<
         result.0.fourth) }
 {
     let (shares, readers) = FleetShares::<M, L0, L1, L2, L3, D>::with_readers(alloc, opened);
-    match Arc::new(alloc, shares) {
-        Ok(shares) => {
+    match shared(alloc, shares, readers) {
+        Ok((shares, readers)) => {
             let answers = run_shared(rt, alloc, &shares, orders, workers, gate);
             let (stores, brings) = unshared(rt, shares).settle(readers);
             match answers {
@@ -144,6 +145,32 @@ fn run_opened<
                 Err(refused) => (stores, Err(refused)),
             }
         }
-        Err(failed) => (failed.value.close(), Err(AllocError)),
+        Err(shares) => (shares.close(), Err(AllocError)),
+    }
+}
+
+// Shares that threads may keep, and their readers. Only want of memory (70) refuses it, that for a reader among it, and the
+// shares come back then.
+fn shared<M: RowName, L0: MirrorName, L1: MirrorName, L2: MirrorName, L3: MirrorName, D: Disk>(
+    alloc: Global,
+    shares: FleetShares<M, L0, L1, L2, L3, D>,
+    readers: Readers<M, L0, L1, L2, L3>,
+) -> Result<
+    (
+        Arc<FleetShares<M, L0, L1, L2, L3, D>>,
+        FleetReaders<M, L0, L1, L2, L3>,
+    ),
+    FleetShares<M, L0, L1, L2, L3, D>,
+>
+    ensures shares { IfOk result (λ p. arc_value p.0 ≡ shares) }
+    ensures readers { IfOk result (λ p. readers ≡ Ok p.1) }
+    ensures back { IfErr result (λ s. s ≡ shares) }
+{
+    match readers {
+        Ok(readers) => match Arc::new(alloc, shares) {
+            Ok(shares) => Ok((shares, readers)),
+            Err(failed) => Err(failed.value),
+        },
+        Err(_) => Err(shares),
     }
 }

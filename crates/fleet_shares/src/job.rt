@@ -40,8 +40,8 @@ pub(crate) fn run_in<R: Wait, M: RowName, L: MirrorName, D: Disk>(
 }
 
 // Runs the job of an order on a mirror, and answers the mirror's newest revision after it. The job enters, and leaves
-// whatever it answers, and with it its trail. HolderRunning (55) where a job of its token runs there, OutOfMemory (70), or the refusal at which
-// the job ended.
+// whatever it answers, and with it its trail. HolderRunning (55) where a job of its token runs there, OutOfMemory (70), or
+// the refusal at which the job ended.
 fn run_on<R: Wait, M: RowName, L: MirrorName, D: Disk>(
     rt: &R,
     alloc: Global,

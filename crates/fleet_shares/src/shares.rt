@@ -1,11 +1,10 @@
 //! A master and the mirrors of four slots, each on a disk that threads share.
-ghost use Rattle.std.specs.Prelude.{◌≡◌, IfSome, is_some, if◌then◌else◌, false};
+ghost use Rattle.std.specs.Prelude.{◌≡◌, IfOk, IfSome, Ok, is_some, if◌then◌else◌, false};
 ghost use Rattle.mirror_share.specs.Names.{IsNamed};
 ghost use Rattle.mirror_share.specs.Seen.{HasSeenAll};
 ghost use Rattle.repo_store.specs.Words.{repository_of};
 ghost use Rattle.store_share.specs.Opened.{cells_of, store_in};
-ghost use Rattle.store_share.specs.Book.{store_of as book_store};
-ghost use Rattle.fleet_shares.specs.Closing.{HasStayed, IsReadBy};
+ghost use Rattle.fleet_shares.specs.Closing.{IsReadBy};
 
 use crate::brings::Brings;
 use crate::closing::{settled, stays};
@@ -14,8 +13,8 @@ use crate::trail::Trails;
 use fleet_disk::Disk;
 use mirror_share::{MirrorName, MirrorShare, OpenedMirror};
 use repo_store::RepoStore;
-use std::alloc::Global;
-use store_share::{MasterBook, MasterShare, OpenedStore, ReaderSeat, RowName};
+use std::alloc::{AllocError, Global};
+use store_share::{MasterShare, OpenedStore, ReaderSeat, RowName};
 
 /// A master's share and the mirrors' in four slots, each empty or a share. Each share has a name of its own, so that no
 /// seat of one is used at another.
@@ -36,15 +35,21 @@ pub struct FleetShares<
     pub(crate) trails: Trails<M, L0, L1, L2, L3>,
 }
 
-/// The seats of readers, who have seen all that was opened. None where there was no memory for one, or no mirror.
+/// The seats of readers, who have seen all that was opened. None where there is no mirror.
 #[derive(Drop)]
 pub(crate) struct FleetReaders<M: RowName, L0: RowName, L1: RowName, L2: RowName, L3: RowName> {
-    pub(crate) master: Option<ReaderSeat<M>>,
+    pub(crate) master: ReaderSeat<M>,
     pub(crate) first: Option<ReaderSeat<L0>>,
     pub(crate) second: Option<ReaderSeat<L1>>,
     pub(crate) third: Option<ReaderSeat<L2>>,
     pub(crate) fourth: Option<ReaderSeat<L3>>,
 }
+
+/// The same, where there was memory for each.
+pub(crate) type Readers<M, L0, L1, L2, L3> = Result<FleetReaders<M, L0, L1, L2, L3>, AllocError>;
+
+// That of a slot, where there was memory for it.
+type SlotReader<L> = Result<Option<ReaderSeat<L>>, AllocError>;
 
 impl<
     M: RowName,
@@ -71,13 +76,14 @@ impl<
         shares
     }
 
-    /// The same with the seat of a reader for each, who has seen all that was opened.
+    /// The same with the seat of a reader for each, who has seen all that was opened. Only want of memory (70) refuses
+    /// these.
     pub(crate) fn with_readers(
         alloc: Global,
         opened: OpenedFleet<D>,
     ) -> (
         FleetShares<M, L0, L1, L2, L3, D>,
-        FleetReaders<M, L0, L1, L2, L3>,
+        Readers<M, L0, L1, L2, L3>,
     )
         requires master { cells_of opened.master ≡ M.cells }
         requires first { IfSome opened.first (λ o. IsNamed o L0.cells L0.merged L0.copying L0.head L0.holder) }
@@ -87,11 +93,11 @@ impl<
         ensures slots { (is_some result.0.first ≡ is_some opened.first)
             × (is_some result.0.second ≡ is_some opened.second) × (is_some result.0.third ≡ is_some opened.third)
             × (is_some result.0.fourth ≡ is_some opened.fourth) }
-        ensures master { IfSome result.1.master (λ t. HasSeenAll t (repository_of (store_in opened.master))) }
-        ensures first { IsReadBy opened.first result.1.first }
-        ensures second { IsReadBy opened.second result.1.second }
-        ensures third { IsReadBy opened.third result.1.third }
-        ensures fourth { IsReadBy opened.fourth result.1.fourth }
+        ensures master { IfOk result.1 (λ r. HasSeenAll r.master (repository_of (store_in opened.master))) }
+        ensures first { IfOk result.1 (λ r. IsReadBy opened.first r.first) }
+        ensures second { IfOk result.1 (λ r. IsReadBy opened.second r.second) }
+        ensures third { IfOk result.1 (λ r. IsReadBy opened.third r.third) }
+        ensures fourth { IfOk result.1 (λ r. IsReadBy opened.fourth r.fourth) }
     {
         let OpenedFleet {
             master,
@@ -114,13 +120,13 @@ impl<
                 fourth,
                 trails: Trails::new(),
             },
-            FleetReaders {
-                master: theirs,
-                first: first_reader,
-                second: second_reader,
-                third: third_reader,
-                fourth: fourth_reader,
-            },
+            all_read(
+                theirs,
+                first_reader,
+                second_reader,
+                third_reader,
+                fourth_reader,
+            ),
         )
     }
 
@@ -165,7 +171,7 @@ impl<
             trails,
         } = self;
         let mut master = master.close();
-        let stays = master_stays(&mut master, readers.master);
+        let stays = stays(&mut master, readers.master);
         let (first, first_up) = settled(
             &mut master,
             first,
@@ -212,18 +218,18 @@ impl<
 fn master_of<M: RowName, D: Disk>(
     alloc: Global,
     opened: OpenedStore<D>,
-) -> (MasterShare<M, D>, Option<ReaderSeat<M>>)
+) -> (MasterShare<M, D>, Result<ReaderSeat<M>, AllocError>)
     requires { cells_of opened ≡ M.cells }
-    ensures { IfSome result.1 (λ t. HasSeenAll t (repository_of (store_in opened))) }
+    ensures { IfOk result.1 (λ t. HasSeenAll t (repository_of (store_in opened))) }
 {
     let (mut book, row) = opened.into_book::<M>();
     match row.notes(alloc) {
         Ok(notes) => {
             book.is_whole();
             let reader = book.seat_reader(notes);
-            (MasterShare::new(book, row), Some(reader))
+            (MasterShare::new(book, row), Ok(reader))
         }
-        Err(_) => (MasterShare::new(book, row), None),
+        Err(refused) => (MasterShare::new(book, row), Err(refused)),
     }
 }
 
@@ -231,17 +237,46 @@ fn master_of<M: RowName, D: Disk>(
 fn mirror_of<L: MirrorName, D: Disk>(
     alloc: Global,
     opened: Option<OpenedMirror<D>>,
-) -> (Option<MirrorShare<L, D>>, Option<ReaderSeat<L>>)
+) -> (Option<MirrorShare<L, D>>, SlotReader<L>)
     requires { IfSome opened (λ o. IsNamed o L.cells L.merged L.copying L.head L.holder) }
     ensures some { is_some result.0 ≡ is_some opened }
-    ensures read { IsReadBy opened result.1 }
+    ensures read { IfOk result.1 (IsReadBy opened) }
 {
     match opened {
         Some(opened) => {
             let (share, reader) = MirrorShare::<L, D>::with_reader(alloc, opened);
-            (Some(share), reader)
+            match reader {
+                Ok(reader) => (Some(share), Ok(Some(reader))),
+                Err(refused) => (Some(share), Err(refused)),
+            }
         }
-        None => (None, None),
+        None => (None, Ok(None)),
+    }
+}
+
+// The seats of all readers, where none was refused.
+fn all_read<M: RowName, L0: RowName, L1: RowName, L2: RowName, L3: RowName>(
+    master: Result<ReaderSeat<M>, AllocError>,
+    first: SlotReader<L0>,
+    second: SlotReader<L1>,
+    third: SlotReader<L2>,
+    fourth: SlotReader<L3>,
+) -> Readers<M, L0, L1, L2, L3>
+    ensures master { IfOk result (λ r. master ≡ Ok r.master) }
+    ensures first { IfOk result (λ r. first ≡ Ok r.first) }
+    ensures second { IfOk result (λ r. second ≡ Ok r.second) }
+    ensures third { IfOk result (λ r. third ≡ Ok r.third) }
+    ensures fourth { IfOk result (λ r. fourth ≡ Ok r.fourth) }
+{
+    match (master, first, second, third, fourth) {
+        (Ok(master), Ok(first), Ok(second), Ok(third), Ok(fourth)) => Ok(FleetReaders {
+            master,
+            first,
+            second,
+            third,
+            fourth,
+        }),
+        _ => Err(AllocError),
     }
 }
 
@@ -253,20 +288,6 @@ fn both(stays: bool, is_brought: bool) -> bool
         return is_brought;
     }
     false
-}
-
-// Whether the master has what a reader saw when it was opened.
-fn master_stays<M: RowName, D: Disk>(
-    master: &mut MasterBook<M, D>,
-    reader: Option<ReaderSeat<M>>,
-) -> bool
-    ensures master { book_store master.new ≡ book_store master.old }
-    ensures stays { HasStayed result reader (repository_of (book_store master.old)) }
-{
-    match reader {
-        Some(reader) => stays(master, reader),
-        None => false,
-    }
 }
 
 // The store of a slot.

@@ -54,22 +54,23 @@ impl<L: MirrorName, D: Disk> MirrorShare<L, D> {
         MirrorShare::behind_lock(book, row)
     }
 
-    /// The same with the seat of a reader, who has seen all that was opened. None where there is no memory for it.
+    /// The same with the seat of a reader, who has seen all that was opened. Only want of memory (70) refuses that seat.
     pub fn with_reader(
         alloc: Global,
         opened: OpenedMirror<D>,
-    ) -> (MirrorShare<L, D>, Option<ReaderSeat<L>>)
+    ) -> (MirrorShare<L, D>, Result<ReaderSeat<L>, AllocError>)
         requires { IsNamed opened L.cells L.merged L.copying L.head L.holder }
-        ensures { IfSome result.1 (λ seat. HasSeenAll seat (repository_of (store_in (opened_in opened)))) }
+        ensures row { row_of result.0 ≡ L.cells }
+        ensures seen { IfOk result.1 (λ seat. HasSeenAll seat (repository_of (store_in (opened_in opened)))) }
     {
         let (mut book, row) = opened.into_book::<L>(alloc);
         match row.notes(alloc) {
             Ok(notes) => {
                 book.is_whole();
                 let reader = book.seat_reader(notes);
-                (MirrorShare::behind_lock(book, row), Some(reader))
+                (MirrorShare::behind_lock(book, row), Ok(reader))
             }
-            Err(_) => (MirrorShare::behind_lock(book, row), None),
+            Err(refused) => (MirrorShare::behind_lock(book, row), Err(refused)),
         }
     }
 
