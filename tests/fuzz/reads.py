@@ -11,7 +11,9 @@ for these things. The program's own rules stand for them:
     is no directory;
   - a command of another form is denied (210004), and the session goes on, where svnserve ends it;
   - a URL is taken as it is spelled: its scheme and host keep their case, and a second slash or a `.` is no path;
-  - a revision of 2^64 - 1 is above the head, where svnserve takes it for none.
+  - a revision of 2^64 - 1 is above the head, where svnserve takes it for none;
+  - `get-locations` tells each number as often as it is asked for, and a later one where the node stood on at its path, where
+    svnserve tells a number once, and takes a node that was brought back from before the peg for the same.
 """
 import collections
 import hashlib
@@ -36,6 +38,8 @@ DENIED = {'change-rev-prop', 'change-rev-prop2', 'replay', 'replay-range', 'log'
           'get-file-revs', 'update', 'switch', 'status', 'diff'}
 # Those of the latter that are answered here as svnserve does: their names go above once the program answers them.
 READY = {'log', 'get-locations', 'get-location-segments'}
+# Whether places of nodes are told as svnserve tells them.
+AS_SVNSERVE = False
 
 
 class Denied(Exception):
@@ -409,16 +413,24 @@ class Reads(Server):
 
         def answered():
             self.node(path, peg)
-            found = self.locations(self.place + path, peg, numbers)
-            return b''.join([spelled([number, b'/' + b'/'.join(it)]) for number, it in found.items() if it is not None])
+            found = (self.locations_together if AS_SVNSERVE else self.locations)(self.place + path, peg, numbers)
+            return b''.join([spelled([number, b'/' + b'/'.join(it)]) for number, it in found if it is not None])
         return self.listed_first(answered)
 
     def locations(self, path, peg, numbers):
-        """Where what stands at a path in a revision stood in others. A later one has it at the same path, if at all; all are
-        told from the newest later one that has it."""
+        """Where what stands at a path in a revision stood in each of others. A later one has it at the same path, if at all."""
+        for it in numbers:
+            self.number(it)
+        return [(it, self.location(path, peg, it) if it <= peg else self.stayed(path, it, peg)) for it in numbers]
+
+    def stayed(self, path, number, peg):
+        return path if path in self.trees[number] and self.location(path, number, peg) == path else None
+
+    def locations_together(self, path, peg, numbers):
+        """The same by svnserve: all are told from the newest later one that has it."""
         later = [it for it in numbers if it > peg and path in self.trees[self.number(it)]]
         newest = max([it for it in later if self.is_older(path, it, peg)], default=peg)
-        return {it: self.location(path, newest, it) for it in numbers if it <= newest}
+        return {it: self.location(path, newest, it) for it in numbers if it <= newest}.items()
 
     def is_older(self, path, number, peg):
         """Whether what stands at a path in a revision stood there too when it was last changed by a peg's revision. (So what
