@@ -10,8 +10,8 @@ ROOTS = [b'svn://127.0.0.1:3690', b'svn://h', b'svn://H.example:1', b'svn://u@h'
 BAD_URLS = [b'', b'svn:', b'svn://', b'svn:///', b'svn:///a', b'SVN://h/a', b'svn+ssh://h/a', b'http://h/a', b'file:///a', b'/a', b'a', b'svn://h//', b'svn://h/.']
 # Each as often as it is asked for; those behind them seldom.
 COMMANDS = [b'get-latest-rev', b'rev-proplist', b'rev-prop', b'get-lock', b'get-locks']
-COMMANDS += 2 * [b'check-path'] + 4 * [b'stat', b'get-file', b'get-dir'] + 2 * [b'reparent']
-DENIED = [b'log', b'get-locations', b'get-location-segments', b'get-file-revs', b'update', b'switch', b'status', b'diff',
+COMMANDS += 2 * [b'check-path'] + 4 * [b'stat', b'get-file', b'get-dir', b'get-locations'] + 2 * [b'reparent']
+DENIED = [b'log', b'get-location-segments', b'get-file-revs', b'update', b'switch', b'status', b'diff',
           b'change-rev-prop', b'change-rev-prop2', b'replay', b'replay-range']
 UNKNOWN = [b'commit', b'list', b'get-mergeinfo', b'get-iprops', b'lock', b'unlock', b'lock-many', b'get-deleted-rev', b'set-path', b'x']
 DEPTHS = [Word(it) for it in (b'empty', b'files', b'immediates', b'infinity', b'unknown', b'exclude')]
@@ -123,7 +123,8 @@ class Reader(Asker):
             paths = [self.path() for _ in range(random.choice([0, 1, 1, 1, 2, 3]))]
             return self.cut([paths, *self.ranged(), self.flag(), self.flag(), random.choice([0, 0, 1, 3]), random.random() < 0.1, *named], 2 + len(named))
         if name == b'get-locations':
-            return [self.path(), self.number(), [self.number() for _ in range(random.randrange(4))]]
+            path, peg = self.placed()
+            return [path, peg[0] if peg else self.number(), [self.number() for _ in range(random.randrange(6))]]
         if name == b'get-location-segments':
             return [self.path(), *self.ranged(3)]
         if name == b'get-file-revs':

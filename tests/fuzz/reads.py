@@ -33,11 +33,12 @@ NOWHEN = b'1970-01-01T00:00:00.000000Z'
 DEPTHS = [b'empty', b'files', b'immediates', b'infinity', b'unknown']
 
 # The commands that are answered, and those that are denied (200007) where they have their form.
-ANSWERED = {'get-latest-rev', 'check-path', 'get-file', 'get-dir', 'rev-proplist', 'rev-prop', 'stat', 'reparent', 'get-lock', 'get-locks'}
-DENIED = {'change-rev-prop', 'change-rev-prop2', 'replay', 'replay-range', 'log', 'get-locations', 'get-location-segments',
-          'get-file-revs', 'update', 'switch', 'status', 'diff'}
+ANSWERED = {'get-latest-rev', 'check-path', 'get-file', 'get-dir', 'rev-proplist', 'rev-prop', 'stat', 'reparent', 'get-lock', 'get-locks',
+            'get-locations'}
+DENIED = {'change-rev-prop', 'change-rev-prop2', 'replay', 'replay-range', 'log', 'get-location-segments', 'get-file-revs',
+          'update', 'switch', 'status', 'diff'}
 # Those of the latter that are answered here as svnserve does: their names go above once the program answers them.
-READY = {'log', 'get-locations', 'get-location-segments'}
+READY = {'log', 'get-location-segments'}
 # Whether places of nodes are told as svnserve tells them.
 AS_SVNSERVE = False
 

@@ -23,8 +23,8 @@ fn child(alloc: Global, path: &NodePath, name: &NodeName) -> Result<NodePath, Hi
     }
 }
 
-// A path with these names behind it.
-fn joined(alloc: Global, front: &NodePath, rest: &[NodeName]) -> Result<NodePath, HistoryFault>
+/// A path with these names behind it. `TooLong` past the limits of paths.
+pub fn joined(alloc: Global, front: &NodePath, rest: &[NodeName]) -> Result<NodePath, HistoryFault>
     ensures joined { IfOk result (λ p. p ≡ front.now ++ rest.now) }
     ensures refused { IfErr result (λ e. e ≡ TooLong → fits (front.now ++ rest.now) ≡ false) }
 {

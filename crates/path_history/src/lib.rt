@@ -3,7 +3,7 @@
 #![tactic(auto)]
 
 pub use asked::Asked;
-pub use back::origin;
+pub use back::{joined, origin};
 pub use changed::{ChangedPath, changed_path};
 pub use fault::HistoryFault;
 pub use history::history_of;

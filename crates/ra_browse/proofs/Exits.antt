@@ -1,5 +1,5 @@
 -- Exits of what answers a command.
-use Rattle.std.proofs.Common.{◌≡◌, ℕ, ◌≤◌, inl, inr, Bool, true, false, List, [], ◌∷◌, ◌++◌, map, Option, Some, None, Result, Ok, Err, sym, ap, subst, ◌∙◌}
+use Rattle.std.proofs.Common.{◌≡◌, ℕ, ◌≤◌, inl, inr, Bool, true, false, List, [], ◌∷◌, ◌++◌, map, Option, Some, None, Result, Ok, Err, true≢false, refl, sym, ap, subst, ◌∙◌}
 use Rattle.std.proofs.KnownBytes.{Appends-trans, Appends-kept}
 use Rattle.std.specs.Prelude.{IfOk, if◌then◌else◌}
 use Rattle.std.specs.FinMap as finite
@@ -14,7 +14,7 @@ use Rattle.ra_wire.specs.Answers.{dirent_as}
 use Rattle.ra_wire.specs.Commands.{GetFile, GetDir}
 use Rattle.ra_wire.specs.Replies.{authorised}
 use Rattle.ra_wire.specs.declared.dirent.Dirent as declared_dirent
-use Rattle.browse_wire.specs.Asks.{Ask, Plain, Stat}
+use Rattle.browse_wire.specs.Asks.{Ask, Plain, Stat, Log, Locations, Segments, FileRevs, Reparent, GetLock, GetLocks, Update, Switch, Status, Diff}
 use Rattle.browse_wire.specs.AskReading.{Reading}
 use Rattle.browse_wire.specs.Urls.{Url}
 use Rattle.browse_wire.specs.declared.fault.BrowseFault.{BrowseFault}
@@ -30,35 +30,41 @@ use Rattle.ra_browse.specs.declared.stop.Stop.{Stop}
 use Rattle.ra_browse.specs.declared.stop.Stop.TheVariants as stop
 use Rattle.ra_browse.specs.declared.look.Seen.{Seen}
 use Rattle.ra_browse.specs.Denials.{denied, unless_denied}
-use Rattle.ra_browse.specs.Answers.{no_revision, made_for, stat_told, file_told, file_denied, dir_told, dir_denied, entries_wanted, is_answered, asks_port, browse_due, browse_content, reply, told, answer, no_ask}
+use Rattle.ra_browse.specs.Histories.{Nothing, listed}
+use Rattle.ra_browse.specs.Answers.{no_revision, made_for, stat_told, file_told, file_denied, dir_told, dir_denied, entries_wanted, is_answered, asks_port, browse_due, browse_content, reply, told, answer, no_ask, MayFind}
 use Rattle.ra_browse.specs.Tellings.{made_as, MayStop, TellsStop, IsSeen, AreEntries, Replied, Answered, Tells, Answers}
 
+-- a command that asks for no history
+abbrev pub IsPlain : Repository → Url → Ask → Type 0
+IsPlain x at c = ((h : Option PortFault) → MayFind x at c h Nothing) × (listed c Nothing ≡ [])
+
 -- what a command is told, where the port refused nothing by itself
-replied : (x : Repository) (at : Url) (c : Ask) (rose : Type 0) (before now : Option (List ℕ)) → Appends before now (reply x at c) → Replied x at c rose before now
-replied x at c rose before now a = record { halt = None; lawful = tt; counted = inl tt; bytes = a }
+replied : (x : Repository) (at : Url) (c : Ask) (rose : Type 0) (before now : Option (List ℕ)) → IsPlain x at c → Appends before now (reply x at c) → Replied x at c rose before now
+replied x at c rose before now i a = record { halt = None; found = Nothing; has = i.0 None; lawful = tt; counted = inl tt; bytes = subst (λ l. Appends before now (l ++ reply x at c)) (sym i.1) a }
 
 -- the same of a command of which nothing is denied
-pub told_there : (x : Repository) (at : Url) (c : Ask) (rose : Type 0) (before now : Option (List ℕ)) → browse_due x at c ≡ None → Appends before now (browse_content x at c) → Replied x at c rose before now
-told_there x at c rose before now d a = replied x at c rose before now (subst (λ o. Appends before now (unless_denied o (browse_content x at c))) (sym d) a)
+pub told_there : (x : Repository) (at : Url) (c : Ask) (rose : Type 0) (before now : Option (List ℕ)) → IsPlain x at c → browse_due x at c ≡ None → Appends before now (browse_content x at c) → Replied x at c rose before now
+told_there x at c rose before now i d a = replied x at c rose before now i (subst (λ o. Appends before now (unless_denied o (browse_content x at c))) (sym d) a)
 
 -- the port refused by itself
-own : (x : Repository) (at : Url) (c : Ask) (rose : Type 0) (before now : Option (List ℕ)) (f : PortFault) → asks_port c ≡ true → IsOwn f → rose → Appends before now (refused (refusal_of f)) → Replied x at c rose before now
-own x at c rose before now f k o r a = record { halt = Some f; lawful = (o, k); counted = inr r; bytes = a }
+own : (x : Repository) (at : Url) (c : Ask) (rose : Type 0) (before now : Option (List ℕ)) (f : PortFault) → asks_port c ≡ true → IsPlain x at c → IsOwn f → rose → Appends before now (refused (refusal_of f)) → Replied x at c rose before now
+own x at c rose before now f k i o r a = record { halt = Some f; found = Nothing; has = i.0 (Some f); lawful = (o, k); counted = inr r; bytes = subst (λ l. Appends before now (l ++ refused (refusal_of f))) (sym i.1) a }
 
 -- a call stopped
-stopped : (x : Repository) (at : Url) (c : Ask) (p n : ℕ) (before now : Option (List ℕ)) (s : Stop) (d : Option Denial) → asks_port c ≡ true → MayStop p n d s → ((w : Denial) → d ≡ Some w → browse_due x at c ≡ Some w) → TellsStop before now s → Replied x at c (Rose p n) before now
-stopped x at c p n before now (stop.Denied w) d k m h t = replied x at c (Rose p n) before now (subst (λ o. Appends before now (unless_denied o (browse_content x at c))) (sym (h w m)) t)
-stopped x at c p n before now (stop.Port f) d k m h t = own x at c (Rose p n) before now f k m.0 m.1 t
-stopped x at c p n before now stop.OutOfMemory d k m h t = absurd t
+stopped : (x : Repository) (at : Url) (c : Ask) (p n : ℕ) (before now : Option (List ℕ)) (s : Stop) (d : Option Denial) → asks_port c ≡ true → IsPlain x at c → MayStop p n d s → ((w : Denial) → d ≡ Some w → browse_due x at c ≡ Some w) → TellsStop before now s → Replied x at c (Rose p n) before now
+stopped x at c p n before now (stop.Denied w) d k i m h t = replied x at c (Rose p n) before now i (subst (λ o. Appends before now (unless_denied o (browse_content x at c))) (sym (h w m)) t)
+stopped x at c p n before now (stop.Port f) d k i m h t = own x at c (Rose p n) before now f k i m.0 m.1 t
+stopped x at c p n before now stop.OutOfMemory d k i m h t = absurd t
 
 pub tells_stop : {P W : Type 0} (repository : P → Option Repository) (refusals : P → ℕ) (contents : W → Option (List ℕ)) (at : Url) (c : Ask) (old new : P) (out : W) (result : Result W ServeFault) (s : Stop) (d : Repository → Option Denial)
     → asks_port c ≡ true
+    → ((x : Repository) → IsPlain x at c)
     → IfOk result (λ w. TellsStop (contents out) (contents w) s)
     → ((x : Repository) → repository old ≡ Some x → MayStop (refusals old) (refusals new) (d x) s)
     → ((x : Repository) (w : Denial) → d x ≡ Some w → browse_due x at c ≡ Some w)
     → IfOk result (Tells repository refusals contents at c old new out)
-tells_stop repository refusals contents at c old new out (Ok w) s d k t m h = λ x e. stopped x at c (refusals old) (refusals new) (contents out) (contents w) s (d x) k (m x e) (h x) t
-tells_stop repository refusals contents at c old new out (Err g) s d k t m h = tt
+tells_stop repository refusals contents at c old new out (Ok w) s d k i t m h = λ x e. stopped x at c (refusals old) (refusals new) (contents out) (contents w) s (d x) k (i x) (m x e) (h x) t
+tells_stop repository refusals contents at c old new out (Err g) s d k i t m h = tt
 
 -- a call behind another one stopped by the port or for want of memory
 pub stops_later : (p m n : ℕ) (s : Stop) (d : Option Denial) → p ≤ m → MayStop m n None s → MayStop p n d s
@@ -68,11 +74,12 @@ stops_later p m n stop.OutOfMemory d h k = tt
 
 -- these bytes are what a command is told
 pub tells_bytes : {P W : Type 0} (repository : P → Option Repository) (refusals : P → ℕ) (contents : W → Option (List ℕ)) (at : Url) (c : Ask) (old new : P) (out : W) (result : Result W ServeFault) (bytes : List ℕ)
+    → ((x : Repository) → IsPlain x at c)
     → IfOk result (λ w. Appends (contents out) (contents w) bytes)
     → ((x : Repository) → repository old ≡ Some x → bytes ≡ reply x at c)
     → IfOk result (Tells repository refusals contents at c old new out)
-tells_bytes repository refusals contents at c old new out (Ok w) bytes a h = λ x e. replied x at c (Rose (refusals old) (refusals new)) (contents out) (contents w) (subst (Appends (contents out) (contents w)) (h x e) a)
-tells_bytes repository refusals contents at c old new out (Err g) bytes a h = tt
+tells_bytes repository refusals contents at c old new out (Ok w) bytes i a h = λ x e. replied x at c (Rose (refusals old) (refusals new)) (contents out) (contents w) (i x) (subst (Appends (contents out) (contents w)) (h x e) a)
+tells_bytes repository refusals contents at c old new out (Err g) bytes i a h = tt
 
 -- ---- what is denied
 
@@ -123,9 +130,11 @@ dir_reply x at p n props contents s es d i a =
 answered : (x : Repository) (at : Url) (c : Ask) (rose : Type 0) (before mid now : Option (List ℕ)) → is_answered c ≡ true → Appends before mid (spell authorised) → Replied x at c rose mid now → Answered x at (Ok c) rose before now
 answered x at c rose before mid now k a r = record {
   halt = r.halt;
+  found = r.found;
+  has = r.has;
   lawful = r.lawful;
   counted = r.counted;
-  bytes = subst (λ b. Appends before now (if b then spell authorised ++ told x at c r.halt else denied denial.Unsupported)) (sym k) (Appends-trans before mid now (spell authorised) (told x at c r.halt) a r.bytes);
+  bytes = subst (λ b. Appends before now (if b then spell authorised ++ told x at c r.found r.halt else denied denial.Unsupported)) (sym k) (Appends-trans before mid now (spell authorised) (told x at c r.found r.halt) a r.bytes);
 }
 
 pub answers_command : {P W : Type 0} (repository : P → Option Repository) (refusals : P → ℕ) (contents : W → Option (List ℕ)) (at : Url) (c : Ask) (old new : P) (out mid : W) (result : Result W ServeFault)
@@ -137,6 +146,21 @@ answers_command repository refusals contents at c old new out mid (Err g) k a t 
 answers_command repository refusals contents at c old new out mid (Ok w) k a t = λ x e. answered x at c (Rose (refusals old) (refusals new)) (contents out) (contents mid) (contents w) k a (t x e)
 
 -- one that isn't
+asks_none : (x : Repository) (at : Url) (c : Ask) → is_answered c ≡ false → MayFind x at c None Nothing
+asks_none x at (Plain c) k = refl
+asks_none x at (Stat p n) k = refl
+asks_none x at (Log l) k = refl
+asks_none x at (Locations p peg ns) k = absurd (true≢false k)
+asks_none x at (Segments p peg start end) k = refl
+asks_none x at (FileRevs p start end merged) k = refl
+asks_none x at (Reparent url) k = refl
+asks_none x at (GetLock p) k = refl
+asks_none x at (GetLocks p d) k = refl
+asks_none x at (Update n p d copies ignores) k = refl
+asks_none x at (Switch n p url d copies ignores) k = refl
+asks_none x at (Status n p d) k = refl
+asks_none x at (Diff n p url d ignores texts) k = refl
+
 pub answers_other : {P W : Type 0} (repository : P → Option Repository) (refusals : P → ℕ) (contents : W → Option (List ℕ)) (at : Url) (c : Ask) (old : P) (out : W) (result : Result W ServeFault)
     → is_answered c ≡ false
     → IfOk result (λ w. Appends (contents out) (contents w) (denied denial.Unsupported))
@@ -144,9 +168,11 @@ pub answers_other : {P W : Type 0} (repository : P → Option Repository) (refus
 answers_other repository refusals contents at c old out (Err g) k a = tt
 answers_other repository refusals contents at c old out (Ok w) k a = λ x e. record {
   halt = None;
+  found = Nothing;
+  has = asks_none x at c k;
   lawful = tt;
   counted = inl tt;
-  bytes = subst (λ b. Appends (contents out) (contents w) (if b then spell authorised ++ told x at c None else denied denial.Unsupported)) (sym k) a;
+  bytes = subst (λ b. Appends (contents out) (contents w) (if b then spell authorised ++ told x at c Nothing None else denied denial.Unsupported)) (sym k) a;
 }
 
 -- what an item is read as
@@ -167,6 +193,8 @@ answers_none repository refusals contents at read f d old out (Ok w) k b a = λ 
     subst (λ r. Answered x at r (Rose (refusals old) (refusals old)) (contents out) (contents w)) (sym k)
     (record {
       halt = None;
+      found = Nothing;
+      has = refl;
       lawful = tt;
       counted = inl tt;
       bytes = subst (λ v. Appends (contents out) (contents w) (denied v)) (sym b) a;
@@ -182,7 +210,9 @@ answers_kept repository refusals contents at read old new out mid (Ok w) t k = �
     let r = t x e in
     record {
       halt = r.halt;
+      found = r.found;
+      has = r.has;
       lawful = r.lawful;
       counted = r.counted;
-      bytes = Appends-kept (contents out) (contents mid) (contents w) (answer x at read r.halt) r.bytes k;
+      bytes = Appends-kept (contents out) (contents mid) (contents w) (answer x at read r.found r.halt) r.bytes k;
     }

@@ -8,3 +8,5 @@ pub mod Laws
 pub mod Moves
 pub mod Mades
 pub mod Handed
+pub mod Fronts
+pub mod Located

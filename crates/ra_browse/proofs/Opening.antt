@@ -24,49 +24,52 @@ use Rattle.ra_serve.specs.declared.fault.End as declared
 use Rattle.ra_serve.specs.declared.fault.End.TheVariants as end
 use Rattle.ra_serve.specs.declared.fault.ServeFault.{ServeFault}
 use Rattle.ra_serve.proofs.Opening.{fault_alone}
-use Rattle.ra_browse.specs.Sessions.{Turn, answers, behind_login, behind_hello, session, greeting, place_in, goes_on, ends_opening, commands_of}
+use Rattle.ra_browse.specs.Sessions.{Turn, HelloHas, LoginHas, SessionHas, answers, behind_login, behind_hello, session, greeting, place_in, goes_on, ends_opening, commands_of}
 use Rattle.ra_browse.specs.Serving.{BrowsesBy, behind_one, spelled_login}
 use Rattle.ra_browse.proofs.Turning.{as_turn, one_before, ends_at_once}
 
 -- an item of the opening, and then the rest
-pub by_before : {P R W : Type 0} {g : _} (spelled spelled_rest : Repository → List Turn → List ℕ) (asked asked_rest : List Turn → List Turn) (stands over stands_rest over_rest : List Item → Bool) (repository : P → Option Repository) (refusals : P → ℕ) (remaining : R → Option (List ℕ)) (contents : W → Option (List ℕ)) (old new : P) (items amid items_now : ItemStream R g) (out mid : W) (result : Result (W × declared.End) ServeFault) (item : Item) (bytes : Repository → List ℕ)
+pub by_before : {P R W : Type 0} {g : _} (spelled spelled_rest : Repository → List Turn → List ℕ) (Has HasRest : Repository → List Turn → Type 0) (asked asked_rest : List Turn → List Turn) (stands over stands_rest over_rest : List Item → Bool) (repository : P → Option Repository) (refusals : P → ℕ) (remaining : R → Option (List ℕ)) (contents : W → Option (List ℕ)) (old new : P) (items amid items_now : ItemStream R g) (out mid : W) (result : Result (W × declared.End) ServeFault) (item : Item) (bytes : Repository → List ℕ)
     → ((x : Repository) (ts : List Turn) → spelled x (as_turn item ∷ ts) ≡ bytes x ++ spelled_rest x ts)
+    → ((x : Repository) (ts : List Turn) → HasRest x ts → Has x (as_turn item ∷ ts))
     → ((ts : List Turn) → asked (as_turn item ∷ ts) ≡ asked_rest ts)
     → ((xs : List Item) → stands_rest xs ≡ true → stands (item ∷ xs) ≡ true)
     → ((xs : List Item) → over_rest xs ≡ true → over (item ∷ xs) ≡ true)
     → ((x : Repository) → repository old ≡ Some x → Appends (contents out) (contents mid) (bytes x))
     → Takes (item ∷ []) (remaining (reader_of items)) (remaining (reader_of amid)) (ahead items) (ahead amid)
     → is_spent amid ≡ false
-    → IfOk result (λ r. BrowsesBy spelled_rest asked_rest stands_rest over_rest repository refusals remaining contents old new amid items_now mid r.0 r.1)
-    → IfOk result (λ r. BrowsesBy spelled asked stands over repository refusals remaining contents old new items items_now out r.0 r.1)
-by_before spelled spelled_rest asked asked_rest stands over stands_rest over_rest repository refusals remaining contents old new items amid items_now out mid (Err f) item bytes s q h k a t p r = tt
-by_before spelled spelled_rest asked asked_rest stands over stands_rest over_rest repository refusals remaining contents old new items amid items_now out mid (Ok w) item bytes s q h k a t p r = λ x e.
-    one_before (spelled x) (spelled_rest x) asked asked_rest stands over stands_rest over_rest (refusals old) (refusals new) (contents out) (contents mid) (contents w.0) (remaining (reader_of items)) (remaining (reader_of amid)) (remaining (reader_of items_now)) (ahead items) (ahead amid) (ahead items_now) (is_spent items) (is_spent amid) w.1 item (bytes x)
-    (s x) q h k (a x e) t (λ l. cc) (r x e)
+    → IfOk result (λ r. BrowsesBy spelled_rest HasRest asked_rest stands_rest over_rest repository refusals remaining contents old new amid items_now mid r.0 r.1)
+    → IfOk result (λ r. BrowsesBy spelled Has asked stands over repository refusals remaining contents old new items items_now out r.0 r.1)
+by_before spelled spelled_rest Has HasRest asked asked_rest stands over stands_rest over_rest repository refusals remaining contents old new items amid items_now out mid (Err f) item bytes s v q h k a t p r = tt
+by_before spelled spelled_rest Has HasRest asked asked_rest stands over stands_rest over_rest repository refusals remaining contents old new items amid items_now out mid (Ok w) item bytes s v q h k a t p r = λ x e.
+    one_before (spelled x) (spelled_rest x) (Has x) (HasRest x) asked asked_rest stands over stands_rest over_rest (refusals old) (refusals new) (contents out) (contents mid) (contents w.0) (remaining (reader_of items)) (remaining (reader_of amid)) (remaining (reader_of items_now)) (ahead items) (ahead amid) (ahead items_now) (is_spent items) (is_spent amid) w.1 item (bytes x)
+    (s x) (v x) q h k (a x e) t (λ l. cc) (r x e)
 
 -- the opening ends, or the bytes do
-pub by_end : {P R W : Type 0} {g : _} (spelled : Repository → List Turn → List ℕ) (asked : List Turn → List Turn) (stands over : List Item → Bool) (repository : P → Option Repository) (refusals : P → ℕ) (remaining : R → Option (List ℕ)) (contents : W → Option (List ℕ)) (old : P) (items items_now : ItemStream R g) (out now : W) (e : declared.End) (ts : List Turn)
+pub by_end : {P R W : Type 0} {g : _} (spelled : Repository → List Turn → List ℕ) (Has : Repository → List Turn → Type 0) (asked : List Turn → List Turn) (stands over : List Item → Bool) (repository : P → Option Repository) (refusals : P → ℕ) (remaining : R → Option (List ℕ)) (contents : W → Option (List ℕ)) (old : P) (items items_now : ItemStream R g) (out now : W) (e : declared.End) (ts : List Turn)
+    → ((x : Repository) → Has x ts)
     → asked ts ≡ []
     → ((x : Repository) → repository old ≡ Some x → Appends (contents out) (contents now) (spelled x ts))
     → EndsAt stands over (map (λ t. t.item) ts) (remaining (reader_of items)) (remaining (reader_of items_now)) (ahead items) (ahead items_now) (is_spent items) e
-    → BrowsesBy spelled asked stands over repository refusals remaining contents old old items items_now out now e
-by_end spelled asked stands over repository refusals remaining contents old items items_now out now e ts q a k = λ x h.
-    ends_at_once (spelled x) asked stands over (refusals old) (contents out) (contents now) (remaining (reader_of items)) (remaining (reader_of items_now)) (ahead items) (ahead items_now) (is_spent items) e ts q (a x h) k
+    → BrowsesBy spelled Has asked stands over repository refusals remaining contents old old items items_now out now e
+by_end spelled Has asked stands over repository refusals remaining contents old items items_now out now e ts v q a k = λ x h.
+    ends_at_once (spelled x) (Has x) asked stands over (refusals old) (contents out) (contents now) (remaining (reader_of items)) (remaining (reader_of items_now)) (ahead items) (ahead items_now) (is_spent items) e ts (v x) q (a x h) k
 
 -- the stream is refused
-pub by_fault : {P R W : Type 0} {g : _} (spelled : Repository → List Turn → List ℕ) (asked : List Turn → List Turn) (stands over : List Item → Bool) (repository : P → Option Repository) (refusals : P → ℕ) (remaining : R → Option (List ℕ)) (contents : W → Option (List ℕ)) (old : P) (items items_now : ItemStream R g) (out now : W) (result : Result (W × declared.End) ServeFault) (c : Counts) (f : NextFault)
+pub by_fault : {P R W : Type 0} {g : _} (spelled : Repository → List Turn → List ℕ) (Has : Repository → List Turn → Type 0) (asked : List Turn → List Turn) (stands over : List Item → Bool) (repository : P → Option Repository) (refusals : P → ℕ) (remaining : R → Option (List ℕ)) (contents : W → Option (List ℕ)) (old : P) (items items_now : ItemStream R g) (out now : W) (result : Result (W × declared.End) ServeFault) (c : Counts) (f : NextFault)
     → IfOk result (λ r. (r.0 ≡ now) × EndsBy f r.1)
+    → ((x : Repository) → Has x [])
     → asked [] ≡ []
     → stands [] ≡ true
     → ((x : Repository) → repository old ≡ Some x → Appends (contents out) (contents now) (spelled x []))
     → Stops [] (remaining (reader_of items)) (remaining (reader_of items_now)) (ahead items) (is_spent items) c f
-    → IfOk result (λ r. BrowsesBy spelled asked stands over repository refusals remaining contents old old items items_now out r.0 r.1)
-by_fault spelled asked stands over repository refusals remaining contents old items items_now out now (Err d) c f t q s a k = tt
-by_fault spelled asked stands over repository refusals remaining contents old items items_now out now (Ok w) c next.PeerFailed t q s a k = absurd t.1
-by_fault spelled asked stands over repository refusals remaining contents old items items_now out now (Ok w) c (next.Items f) t q s a k =
-    subst (λ e. BrowsesBy spelled asked stands over repository refusals remaining contents old old items items_now out w.0 e) (sym t.1.0)
-    (subst (λ v. BrowsesBy spelled asked stands over repository refusals remaining contents old old items items_now out v (end.Items f)) (sym t.0)
-    (by_end spelled asked stands over repository refusals remaining contents old items items_now out now (end.Items f) [] q a (s, fault_alone [] (remaining (reader_of items)) (remaining (reader_of items_now)) (ahead items) (is_spent items) c f k, t.1.1)))
+    → IfOk result (λ r. BrowsesBy spelled Has asked stands over repository refusals remaining contents old old items items_now out r.0 r.1)
+by_fault spelled Has asked stands over repository refusals remaining contents old items items_now out now (Err d) c f t v q s a k = tt
+by_fault spelled Has asked stands over repository refusals remaining contents old items items_now out now (Ok w) c next.PeerFailed t v q s a k = absurd t.1
+by_fault spelled Has asked stands over repository refusals remaining contents old items items_now out now (Ok w) c (next.Items f) t v q s a k =
+    subst (λ e. BrowsesBy spelled Has asked stands over repository refusals remaining contents old old items items_now out w.0 e) (sym t.1.0)
+    (subst (λ v. BrowsesBy spelled Has asked stands over repository refusals remaining contents old old items items_now out v (end.Items f)) (sym t.0)
+    (by_end spelled Has asked stands over repository refusals remaining contents old items items_now out now (end.Items f) [] v q a (s, fault_alone [] (remaining (reader_of items)) (remaining (reader_of items_now)) (ahead items) (is_spent items) c f k, t.1.1)))
 
 -- ---- the equations of an opening
 
@@ -83,6 +86,9 @@ hello_ends item at e [] k = absurd (true≢false (sym k))
 hello_ends item at e (l ∷ []) k = ap (λ r. is_ok r && not (logs_in (login_in l))) (sym e) ∙ k
 hello_ends item at e (l ∷ (m ∷ xs)) k = absurd (true≢false (sym k))
 
+pub hello_has : (item : Item) (at : Url) → Ok at ≡ place_in item → (x : Repository) (ts : List Turn) → LoginHas at x ts → SessionHas x (as_turn item ∷ ts)
+hello_has item at e x ts h = subst (λ r. HelloHas x r ts) e h
+
 pub hello_asked : (item : Item) (ts : List Turn) → commands_of (as_turn item ∷ ts) ≡ behind_one ts
 hello_asked item [] = refl
 hello_asked item (t ∷ ts) = refl
@@ -90,6 +96,9 @@ hello_asked item (t ∷ ts) = refl
 -- another client
 pub hello_refused : (item : Item) (r : Refusal) (x : Repository) (a b c : Option (List ℕ)) → Err r ≡ place_in item → Appends a b (spell greeting) → Appends b c (refused r) → Appends a c (session x (as_turn item ∷ []))
 hello_refused item r x a b c e p q = subst (Appends a c) (ap (λ s. spell greeting ++ behind_hello x s []) e) (Appends-trans a b c (spell greeting) (refused r) p q)
+
+pub refused_has : (item : Item) (r : Refusal) → Err r ≡ place_in item → (x : Repository) → SessionHas x (as_turn item ∷ [])
+refused_has item r e x = subst (λ s. HelloHas x s []) e tt
 
 pub hello_over : (item : Item) (r : Refusal) → Err r ≡ place_in item → ends_opening (item ∷ []) ≡ true
 hello_over item r e = ap (λ s. not (is_ok s)) (sym e)

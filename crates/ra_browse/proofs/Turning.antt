@@ -19,16 +19,17 @@ use Rattle.ra_serve.specs.declared.fault.PortFault.{PortFault}
 use Rattle.ra_serve.specs.Serving.{EndsAt, HasFault, no_failure, any, none}
 use Rattle.ra_serve.specs.declared.fault.End as declared
 use Rattle.ra_serve.specs.declared.fault.End.TheVariants as end
-use Rattle.ra_browse.specs.Answers.{IsCalm, MayHalt, halts_in, answer, behind}
-use Rattle.ra_browse.specs.Sessions.{Turn, place_after, answers, stands, AllMayHalt, halts}
-use Rattle.ra_browse.specs.Serving.{Browses, all, answers_at}
+use Rattle.ra_browse.specs.Histories.{Nothing}
+use Rattle.ra_browse.specs.Answers.{IsCalm, MayHalt, MayHave, halts_in, answer, behind}
+use Rattle.ra_browse.specs.Sessions.{Turn, place_after, answers, stands, AllMayHalt, AllHave, halts}
+use Rattle.ra_browse.specs.Serving.{Browses, all, all_have, answers_at}
 use Rattle.ra_browse.specs.Tellings.{Answered}
 
 -- ---- one turn more
 
-answers_more : (x : Repository) (at : Url) (ts : List Turn) (t : Turn) → answers x at (ts ++ t ∷ []) ≡ answers x at ts ++ answer x (stands at ts) (ask_in t.item) t.halt
-answers_more x at [] t = append-nil (answer x at (ask_in t.item) t.halt)
-answers_more x at (s ∷ ts) t = ap (λ l. answer x at (ask_in s.item) s.halt ++ l) (answers_more x (place_after at s) ts t) ∙ sym (append_assoc (answer x at (ask_in s.item) s.halt) (answers x (place_after at s) ts) (answer x (stands (place_after at s) ts) (ask_in t.item) t.halt))
+answers_more : (x : Repository) (at : Url) (ts : List Turn) (t : Turn) → answers x at (ts ++ t ∷ []) ≡ answers x at ts ++ answer x (stands at ts) (ask_in t.item) t.found t.halt
+answers_more x at [] t = append-nil (answer x at (ask_in t.item) t.found t.halt)
+answers_more x at (s ∷ ts) t = ap (λ l. answer x at (ask_in s.item) s.found s.halt ++ l) (answers_more x (place_after at s) ts t) ∙ sym (append_assoc (answer x at (ask_in s.item) s.found s.halt) (answers x (place_after at s) ts) (answer x (stands (place_after at s) ts) (ask_in t.item) t.found t.halt))
 
 stands_more : (at : Url) (ts : List Turn) (t : Turn) → stands at (ts ++ t ∷ []) ≡ place_after (stands at ts) t
 stands_more at [] t = refl
@@ -37,6 +38,10 @@ stands_more at (s ∷ ts) t = stands_more (place_after at s) ts t
 may_more : (ts : List Turn) (t : Turn) → AllMayHalt ts → MayHalt (ask_in t.item) t.halt → AllMayHalt (ts ++ t ∷ [])
 may_more [] t h m = (m, tt)
 may_more (s ∷ ts) t h m = (h.0, may_more ts t h.1 m)
+
+have_more : (x : Repository) (at : Url) (ts : List Turn) (t : Turn) → AllHave x at ts → MayHave x (stands at ts) (ask_in t.item) t.halt t.found → AllHave x at (ts ++ t ∷ [])
+have_more x at [] t h m = (m, tt)
+have_more x at (s ∷ ts) t h m = (h.0, have_more x (place_after at s) ts t h.1 m)
 
 halts_more : (ts : List Turn) (t : Turn) → halts (ts ++ t ∷ []) ≡ halts ts + halts_in t.halt
 halts_more [] t = omega arith
@@ -55,6 +60,7 @@ counted_more ts t p m n k r c = subst (λ j. RoseBy j p n) (sym (halts_more ts t
 -- commands so far: these turns were taken and answered, and here they led
 pub record Going (x : Repository) (at here : Url) (p n : ℕ) (told now : Option (List ℕ)) (before after : Option (List ℕ)) (was is : List ℕ → Stream) : Type 0 where
   pub turns : List Turn
+  pub found : AllHave x at turns
   pub lawful : AllMayHalt turns
   pub counted : RoseBy (halts turns) p n
   pub bytes : Appends told now (answers x at turns)
@@ -64,6 +70,7 @@ pub record Going (x : Repository) (at here : Url) (p n : ℕ) (told now : Option
 pub going_start : (x : Repository) (at : Url) (p : ℕ) (told : Option (List ℕ)) (before : Option (List ℕ)) (was : List ℕ → Stream) → Going x at at p p told told before before was was
 going_start x at p told before was = record {
   turns = [];
+  found = tt;
   lawful = tt;
   counted = inl (omega arith);
   bytes = Appends-nil told;
@@ -79,13 +86,14 @@ pub going_more : (x : Repository) (at here there : Url) (p m n : ℕ) (told mid 
     → there ≡ behind here (ask_in item)
     → Going x at there p n told now before after was is
 going_more x at here there p m n told mid now before amid after was then is item k g taken a led =
-    let t : Turn = record { item = item; halt = a.halt } in
-    let told_here : Appends mid now (answer x (stands at g.turns) (ask_in item) a.halt) = subst (λ u. Appends mid now (answer x u (ask_in item) a.halt)) g.led a.bytes in
+    let t : Turn = record { item = item; found = a.found; halt = a.halt } in
+    let told_here : Appends mid now (answer x (stands at g.turns) (ask_in item) a.found a.halt) = subst (λ u. Appends mid now (answer x u (ask_in item) a.found a.halt)) g.led a.bytes in
     record {
       turns = g.turns ++ t ∷ [];
+      found = have_more x at g.turns t g.found (subst (λ u. MayHave x u (ask_in item) a.halt a.found) g.led a.has);
       lawful = may_more g.turns t g.lawful a.lawful;
       counted = counted_more g.turns t p m n k g.counted a.counted;
-      bytes = subst (Appends told now) (sym (answers_more x at g.turns t)) (Appends-trans told mid now (answers x at g.turns) (answer x (stands at g.turns) (ask_in item) a.halt) g.bytes told_here);
+      bytes = subst (Appends told now) (sym (answers_more x at g.turns t)) (Appends-trans told mid now (answers x at g.turns) (answer x (stands at g.turns) (ask_in item) a.found a.halt) g.bytes told_here);
       led = led ∙ ap (λ u. behind u (ask_in item)) g.led ∙ sym (stands_more at g.turns t);
       taken = subst (λ xs. Takes xs before after was is) (sym (map-append (λ (u : Turn). u.item) g.turns (t ∷ []))) (takes_more (map (λ (u : Turn). u.item) g.turns) (item ∷ []) before amid after was then is g.taken taken);
     }
@@ -95,9 +103,10 @@ going_more x at here there p m n told mid now before amid after was then is item
 browses : (x : Repository) (at here : Url) (p n : ℕ) (told now : Option (List ℕ)) (before amid after : Option (List ℕ)) (was then is : List ℕ → Stream) (spent : Bool) (e : declared.End)
     → (g : Going x at here p n told now before amid was then)
     → EndsAt any none (map (λ t. t.item) g.turns) before after was is spent e
-    → Browses (answers_at at x) all any none p n told now before after was is spent e
+    → Browses (answers_at at x) (all_have at x) all any none p n told now before after was is spent e
 browses x at here p n told now before amid after was then is spent e g ends = record {
   turns = g.turns;
+  found = g.found;
   lawful = g.lawful;
   counted = g.counted;
   bytes = g.bytes;
@@ -107,7 +116,7 @@ browses x at here p n told now before amid after was then is spent e g ends = re
 pub commands_end : (x : Repository) (at here : Url) (p n : ℕ) (told now : Option (List ℕ)) (before amid after : Option (List ℕ)) (was then is : List ℕ → Stream) (spent : Bool)
     → Going x at here p n told now before amid was then
     → Ends [] true amid after then
-    → Browses (answers_at at x) all any none p n told now before after was is spent end.Input
+    → Browses (answers_at at x) (all_have at x) all any none p n told now before after was is spent end.Input
 commands_end x at here p n told now before amid after was then is spent g e =
     browses x at here p n told now before amid after was then is spent end.Input g
     (refl, subst (λ xs. Ends xs true before after was) (append-nil (map (λ (t : Turn). t.item) g.turns)) (takes_end (map (λ (t : Turn). t.item) g.turns) [] true before amid after was then g.taken e))
@@ -117,7 +126,7 @@ pub commands_stop : (x : Repository) (at here : Url) (p n : ℕ) (told now : Opt
     → (spent_now ≡ true → spent ≡ true)
     → HasFault [] amid after then spent_now f
     → f ≢ fault.OutOfMemory
-    → Browses (answers_at at x) all any none p n told now before after was is spent (end.Items f)
+    → Browses (answers_at at x) (all_have at x) all any none p n told now before after was is spent (end.Items f)
 commands_stop x at here p n told now before amid after was then is spent spent_now f g k s m =
     browses x at here p n told now before amid after was then is spent (end.Items f) g
     (refl, subst (λ xs. HasFault xs before after was spent f) (append-nil (map (λ (t : Turn). t.item) g.turns)) (takes_stop (map (λ (t : Turn). t.item) g.turns) [] (next.Items f) before amid after was then spent spent_now no_failure no_failure g.taken k (λ e. e) s), m)
@@ -125,7 +134,7 @@ commands_stop x at here p n told now before amid after was then is spent spent_n
 -- ---- what stands before other turns
 
 abbrev pub as_turn : Item → Turn
-as_turn item = record { item = item; halt = None }
+as_turn item = record { item = item; found = Nothing; halt = None }
 
 -- an item of the opening, and then the rest of it
 ends_behind : (stands over stands_rest over_rest : List Item → Bool) (item : Item) (xs : List Item) (before amid after : Option (List ℕ)) (was then is : List ℕ → Stream) (spent spent_now : Bool) (e : declared.End)
@@ -139,18 +148,20 @@ ends_behind stands over stands_rest over_rest item xs before amid after was then
 ends_behind stands over stands_rest over_rest item xs before amid after was then is spent spent_now end.Opening h k t s e = (k e.0, takes_more (item ∷ []) xs before amid after was then is t e.1)
 ends_behind stands over stands_rest over_rest item xs before amid after was then is spent spent_now (end.Items f) h k t s e = (h e.0, takes_stop (item ∷ []) xs (next.Items f) before amid after was then spent spent_now no_failure no_failure t s (λ e. e) e.1, e.2)
 
-pub one_before : (spelled spelled_rest : List Turn → List ℕ) (asked asked_rest : List Turn → List Turn) (stands over stands_rest over_rest : List Item → Bool) (refused refused_now : ℕ) (told mid now : Option (List ℕ)) (before amid after : Option (List ℕ)) (was then is : List ℕ → Stream) (spent spent_now : Bool) (e : declared.End) (item : Item) (bytes : List ℕ)
+pub one_before : (spelled spelled_rest : List Turn → List ℕ) (Has HasRest : List Turn → Type 0) (asked asked_rest : List Turn → List Turn) (stands over stands_rest over_rest : List Item → Bool) (refused refused_now : ℕ) (told mid now : Option (List ℕ)) (before amid after : Option (List ℕ)) (was then is : List ℕ → Stream) (spent spent_now : Bool) (e : declared.End) (item : Item) (bytes : List ℕ)
     → ((ts : List Turn) → spelled (as_turn item ∷ ts) ≡ bytes ++ spelled_rest ts)
+    → ((ts : List Turn) → HasRest ts → Has (as_turn item ∷ ts))
     → ((ts : List Turn) → asked (as_turn item ∷ ts) ≡ asked_rest ts)
     → ((xs : List Item) → stands_rest xs ≡ true → stands (item ∷ xs) ≡ true)
     → ((xs : List Item) → over_rest xs ≡ true → over (item ∷ xs) ≡ true)
     → Appends told mid bytes
     → Takes (item ∷ []) before amid was then
     → (spent_now ≡ true → spent ≡ true)
-    → Browses spelled_rest asked_rest stands_rest over_rest refused refused_now mid now amid after then is spent_now e
-    → Browses spelled asked stands over refused refused_now told now before after was is spent e
-one_before spelled spelled_rest asked asked_rest stands over stands_rest over_rest refused refused_now told mid now before amid after was then is spent spent_now e item bytes s q h k a t p r = record {
+    → Browses spelled_rest HasRest asked_rest stands_rest over_rest refused refused_now mid now amid after then is spent_now e
+    → Browses spelled Has asked stands over refused refused_now told now before after was is spent e
+one_before spelled spelled_rest Has HasRest asked asked_rest stands over stands_rest over_rest refused refused_now told mid now before amid after was then is spent spent_now e item bytes s v q h k a t p r = record {
   turns = as_turn item ∷ r.turns;
+  found = v r.turns r.found;
   lawful = subst AllMayHalt (sym (q r.turns)) r.lawful;
   counted = subst (λ ts. RoseBy (halts ts) refused refused_now) (sym (q r.turns)) r.counted;
   bytes = subst (Appends told now) (sym (s r.turns)) (Appends-trans told mid now bytes (spelled_rest r.turns) a r.bytes);
@@ -159,13 +170,15 @@ one_before spelled spelled_rest asked asked_rest stands over stands_rest over_re
 
 -- ---- an opening that ends
 
-pub ends_at_once : (spelled : List Turn → List ℕ) (asked : List Turn → List Turn) (stands over : List Item → Bool) (refused : ℕ) (told now : Option (List ℕ)) (before after : Option (List ℕ)) (was is : List ℕ → Stream) (spent : Bool) (e : declared.End) (ts : List Turn)
+pub ends_at_once : (spelled : List Turn → List ℕ) (Has : List Turn → Type 0) (asked : List Turn → List Turn) (stands over : List Item → Bool) (refused : ℕ) (told now : Option (List ℕ)) (before after : Option (List ℕ)) (was is : List ℕ → Stream) (spent : Bool) (e : declared.End) (ts : List Turn)
+    → Has ts
     → asked ts ≡ []
     → Appends told now (spelled ts)
     → EndsAt stands over (map (λ t. t.item) ts) before after was is spent e
-    → Browses spelled asked stands over refused refused told now before after was is spent e
-ends_at_once spelled asked stands over refused told now before after was is spent e ts q a k = record {
+    → Browses spelled Has asked stands over refused refused told now before after was is spent e
+ends_at_once spelled Has asked stands over refused told now before after was is spent e ts v q a k = record {
   turns = ts;
+  found = v;
   lawful = subst AllMayHalt (sym q) tt;
   counted = subst (λ l. RoseBy (halts l) refused refused) (sym q) (inl (omega arith));
   bytes = a;

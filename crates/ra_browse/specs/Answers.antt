@@ -1,11 +1,12 @@
 -- What a reading client's commands are answered, by what stands in the repository and where the session stands.
-use Rattle.std.specs.Prelude.{◌≡◌, ℕ, ◌==◌, nat_le, not, is_none, is_some, Bool, true, false, List, [], ◌∷◌, ◌++◌, map, length, Option, Some, None, unwrap_or, Ok, Err, codes, if◌then◌else◌}
+use Rattle.std.specs.Prelude.{◌≡◌, ℕ, ◌==◌, nat_le, not, ◌&&◌, is_none, is_some, Bool, true, false, List, [], ◌∷◌, ◌++◌, map, length, Option, Some, None, unwrap_or, Ok, Err, codes, if◌then◌else◌}
 use Rattle.std.specs.Fmt.{decimal}
 use Rattle.std.specs.Option.{option_map}
 use Rattle.std.specs.Str.{bytes_eq}
 use Rattle.std.specs.FinMap as finite
 use Rattle.md5.specs.Md5.{md5}
 use Rattle.hex.specs.Hex.{encode_lower}
+use Rattle.node_base.specs.Limits.{fits}
 use Rattle.node_base.specs.Path.{Path, Name}
 use Rattle.node_base.specs.Props.{PropMap}
 use Rattle.node_base.specs.Tree.{PathMap, kind_of}
@@ -18,7 +19,7 @@ use Rattle.ra_wire.specs.Answers.{Dirent}
 use Rattle.ra_wire.specs.Commands as plain
 use Rattle.ra_wire.specs.Commands.{truth_word}
 use Rattle.ra_wire.specs.Replies.{list, success, string, properties, dirent, node_kind_word, number, proplist, value, kind_is, authorised, done}
-use Rattle.browse_wire.specs.Asks.{Ask, Plain, Stat, Reparent, GetLock, GetLocks}
+use Rattle.browse_wire.specs.Asks.{Ask, Plain, Stat, Locations, Reparent, GetLock, GetLocks}
 use Rattle.browse_wire.specs.AskReading.{Reading}
 use Rattle.browse_wire.specs.Told.{no_locks}
 use Rattle.browse_wire.specs.Urls.{Url, url_read}
@@ -32,7 +33,9 @@ use Rattle.browse_wire.specs.declared.url.UrlFault.{UrlFault}
 use Rattle.std.specs.Prelude.{Result}
 use Rattle.ra_browse.specs.declared.denial.Denial.{Denial}
 use Rattle.ra_browse.specs.declared.denial.Denial.TheVariants as denial
+use Rattle.path_history.specs.Places.{place}
 use Rattle.ra_browse.specs.Denials.{denied, unless_denied}
+use Rattle.ra_browse.specs.Histories.{Found, Nothing, FindsIf, is_looked_at, newest, listed, found_denied}
 
 -- ---- looking
 
@@ -146,6 +149,18 @@ dir_bytes n props identity m entries (Some d) = spell (dir_found n (props_told p
 abbrev pub dir_told : ℕ → Bool → List ℕ → Made → List Dirent → Option Node → List ℕ
 dir_told n props identity m entries d = unless_denied (dir_denied d) (dir_bytes n props identity m entries d)
 
+-- ---- histories
+
+-- a place that is looked for: nothing stands at a path past the limits of paths
+abbrev pub place_denied : Path → Option Node → Option Denial
+place_denied p d = fault_if (not (fits p && is_some d)) denial.NoPath
+
+abbrev pub stood_denied : Repository → Path → ℕ → Option Denial
+stood_denied x p n = first_of (no_revision x n ∷ place_denied p (node_in x n p) ∷ [])
+
+abbrev pub locations_denied : Repository → Path → ℕ → List ℕ → Option Denial
+locations_denied x p peg ns = first_of (stood_denied x p peg ∷ no_revision x (newest peg ns) ∷ [])
+
 -- ---- where the session stands
 
 -- the root of the client's URL, and the path below it; another URL of that root moves it
@@ -166,6 +181,7 @@ is_answered (Plain (plain.Replay n)) = false
 is_answered (Plain (plain.ReplayRange a b)) = false
 is_answered (Plain c) = true
 is_answered (Stat p n) = true
+is_answered (Locations p peg ns) = true
 is_answered (Reparent url) = true
 is_answered (GetLock p) = true
 is_answered (GetLocks p d) = true
@@ -179,10 +195,11 @@ browse_due x at (Plain (plain.GetDir p n props contents)) = first_of (no_revisio
 browse_due x at (Plain (plain.RevProplist n)) = no_revision x n
 browse_due x at (Plain (plain.RevProp n name)) = no_revision x n
 browse_due x at (Stat p n) = no_revision x (asked x n)
+browse_due x at (Locations p peg ns) = locations_denied x (at.1 ++ p) peg ns
 browse_due x at (Reparent url) = url_denied at (url_read url)
 browse_due x at c = fault_if (not (is_answered c)) denial.Unsupported
 
--- what it is told where nothing is
+-- what it is told where nothing is, behind what was found of histories
 abbrev pub browse_content : Repository → Url → Ask → List ℕ
 browse_content x at (Plain plain.LatestRev) = spell (number (head_of x.revisions))
 browse_content x at (Plain (plain.CheckPath p n)) = spell (kind_is (option_map kind_of (node_in x (asked x n) (at.1 ++ p))))
@@ -191,6 +208,7 @@ browse_content x at (Plain (plain.GetDir p n props contents)) = dir_bytes (asked
 browse_content x at (Plain (plain.RevProplist n)) = spell (proplist (props_at x.revisions n))
 browse_content x at (Plain (plain.RevProp n name)) = spell (value (finite.get (props_at x.revisions n) name))
 browse_content x at (Stat p n) = spell (stat_told (node_in x (asked x n) (at.1 ++ p)) (made_for x (node_in x (asked x n) (at.1 ++ p))))
+browse_content x at (Locations p peg ns) = spell done
 browse_content x at (Reparent url) = spell done
 browse_content x at (GetLock p) = spell no_locks
 browse_content x at (GetLocks p d) = spell no_locks
@@ -213,9 +231,13 @@ asks_port (GetLock p) = false
 asks_port (GetLocks p d) = false
 asks_port c = is_answered c
 
-abbrev pub told : Repository → Url → Ask → Option PortFault → List ℕ
-told x at c None = reply x at c
-told x at c (Some f) = refused (refusal_of f)
+-- what a command is told behind a list, and how a list ends where the port refused by itself
+abbrev pub verdict : Repository → Url → Ask → Found → Option PortFault → List ℕ
+verdict x at c found None = unless_denied (found_denied found) (reply x at c)
+verdict x at c found (Some f) = refused (refusal_of f)
+
+abbrev pub told : Repository → Url → Ask → Found → Option PortFault → List ℕ
+told x at c found h = listed c found ++ verdict x at c found h
 
 -- ---- items
 
@@ -228,9 +250,9 @@ no_ask browse.ExcludedDepth = denial.Unsupported
 no_ask browse.OutOfMemory = denial.BadShape
 
 -- what an item is answered, a command or none
-abbrev pub answer : Repository → Url → Reading → Option PortFault → List ℕ
-answer x at (Ok c) h = if is_answered c then spell authorised ++ told x at c h else denied denial.Unsupported
-answer x at (Err f) h = denied (no_ask f)
+abbrev pub answer : Repository → Url → Reading → Found → Option PortFault → List ℕ
+answer x at (Ok c) found h = if is_answered c then spell authorised ++ told x at c found h else denied denial.Unsupported
+answer x at (Err f) found h = denied (no_ask f)
 
 abbrev pub behind : Url → Reading → Url
 behind at (Ok c) = moved at c
@@ -241,6 +263,15 @@ abbrev pub MayHalt : Reading → Option PortFault → Type 0
 MayHalt read None = Unit {0}
 MayHalt (Ok c) (Some f) = IsOwn f × (asks_port c ≡ true)
 MayHalt (Err e) (Some f) = ⊥
+
+-- what is found is what the histories of the repository have, and nothing is for a command that asks for none
+abbrev pub MayFind : Repository → Url → Ask → Option PortFault → Found → Type 0
+MayFind x at (Locations p peg ns) h found = FindsIf (is_looked_at h (locations_denied x (at.1 ++ p) peg ns)) x.sets (place peg (at.1 ++ p)) ns found
+MayFind x at c h found = found ≡ Nothing
+
+abbrev pub MayHave : Repository → Url → Reading → Option PortFault → Found → Type 0
+MayHave x at (Ok c) h found = MayFind x at c h found
+MayHave x at (Err f) h found = found ≡ Nothing
 
 abbrev pub IsCalm : Option PortFault → Type 0
 IsCalm None = Unit {0}

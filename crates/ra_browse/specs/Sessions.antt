@@ -13,11 +13,13 @@ use Rattle.browse_wire.specs.declared.url.UrlFault.TheVariants as bad
 use Rattle.ra_serve.specs.declared.fault.PortFault.{PortFault}
 use Rattle.ra_serve.specs.Answers.{refused}
 use Rattle.ra_serve.specs.Sessions.{identity_text, is_anonymous, logs_in}
-use Rattle.ra_browse.specs.Answers.{answer, behind, MayHalt, halts_in}
+use Rattle.ra_browse.specs.Histories.{Found}
+use Rattle.ra_browse.specs.Answers.{answer, behind, MayHalt, MayHave, halts_in}
 
--- an item that a client sent, and the port's own refusal of it, where it refused it by itself
+-- an item that a client sent, what was found of histories for it, and the port's own refusal of it, where it refused it by itself
 pub record Turn : Type 0 where
   pub item : Item
+  pub found : Found
   pub halt : Option PortFault
 
 -- ---- commands
@@ -29,7 +31,7 @@ place_after at t = behind at (ask_in t.item)
 -- each is answered where those before it left the session
 abbrev pub answers : Repository → Url → List Turn → List ℕ
 answers x at [] = []
-answers x at (t ∷ ts) = answer x at (ask_in t.item) t.halt ++ answers x (place_after at t) ts
+answers x at (t ∷ ts) = answer x at (ask_in t.item) t.found t.halt ++ answers x (place_after at t) ts
 
 abbrev pub stands : Url → List Turn → Url
 stands at [] = at
@@ -40,7 +42,12 @@ abbrev pub AllMayHalt : List Turn → Type 0
 AllMayHalt [] = Unit {0}
 AllMayHalt (t ∷ ts) = MayHalt (ask_in t.item) t.halt × AllMayHalt ts
 
--- how many there are
+-- what was found is what the histories of the repository have
+abbrev pub AllHave : Repository → Url → List Turn → Type 0
+AllHave x at [] = Unit {0}
+AllHave x at (t ∷ ts) = MayHave x at (ask_in t.item) t.halt t.found × AllHave x (place_after at t) ts
+
+-- how many refusals there are
 abbrev pub halts : List Turn → ℕ
 halts [] = 0
 halts (t ∷ ts) = halts_in t.halt + halts ts
@@ -91,6 +98,19 @@ abbrev pub commands_of : List Turn → List Turn
 commands_of [] = []
 commands_of (h ∷ []) = []
 commands_of (h ∷ (l ∷ ts)) = ts
+
+-- the same behind the opening
+abbrev pub LoginHas : Url → Repository → List Turn → Type 0
+LoginHas at x [] = Unit {0}
+LoginHas at x (l ∷ ts) = AllHave x at ts
+
+abbrev pub HelloHas : Repository → Result Url Refusal → List Turn → Type 0
+HelloHas x (Err r) ts = Unit {0}
+HelloHas x (Ok at) ts = LoginHas at x ts
+
+abbrev pub SessionHas : Repository → List Turn → Type 0
+SessionHas x [] = Unit {0}
+SessionHas x (t ∷ ts) = HelloHas x (place_in t.item) ts
 
 -- none of these items ends the opening
 abbrev pub goes_on : List Item → Bool

@@ -1,5 +1,5 @@
 -- What the calls that answer say of their port and their writer.
-use Rattle.std.specs.Prelude.{◌≡◌, ◌⊎◌, ℕ, Bool, List, Option, Some, None, Result, Ok, Err}
+use Rattle.std.specs.Prelude.{◌≡◌, ◌⊎◌, ℕ, suc, ◌++◌, take, Bool, List, Option, Some, None, Result, Ok, Err}
 use Rattle.std.specs.Io.KnownBytes.{Appends}
 use Rattle.fleet_disk.specs.Rules.{Rose}
 use Rattle.node_base.specs.Path.{Path}
@@ -26,8 +26,14 @@ use Rattle.node_base.specs.declared.refusal.Refusal.{Refusal}
 use Rattle.node_base.specs.declared.refusal.Refusal.TheVariants as refusal
 use Rattle.ra_browse.specs.declared.session.Misplaced.{Misplaced}
 use Rattle.ra_browse.specs.declared.session.Misplaced.TheVariants as misplaced
-use Rattle.ra_browse.specs.Denials.{denied}
-use Rattle.ra_browse.specs.Answers.{Made, made_for, told, answer, MayHalt, IsCalm, entries_wanted, url_denied, moved_to}
+use Rattle.ra_item.specs.Items.{spell}
+use Rattle.ra_wire.specs.Replies.{done}
+use Rattle.browse_wire.specs.Told.{end_item}
+use Rattle.path_history.specs.declared.place.Place.{Place}
+use Rattle.ra_browse.specs.declared.location.Sought as declared_sought
+use Rattle.ra_browse.specs.Denials.{denied, unless_denied}
+use Rattle.ra_browse.specs.Histories.{Found, FindsPlaces, newest, places_told, places_of, found_denied}
+use Rattle.ra_browse.specs.Answers.{Made, made_for, told, answer, MayHalt, MayFind, MayHave, IsCalm, entries_wanted, url_denied, moved_to}
 use Rattle.std.specs.Option.{option_map}
 use Rattle.std.specs.Prelude.{map}
 
@@ -83,21 +89,59 @@ TellsStop before now (stop.Denied d) = Appends before now (denied d)
 TellsStop before now (stop.Port f) = Appends before now (refused (refusal_of f))
 TellsStop before now stop.OutOfMemory = ⊥
 
+-- ---- histories
+
+-- a call that asks no port decided so: such a value where nothing is denied, or what is denied, or memory ran out
+abbrev pub Denies : Option Denial → Stop → Type 0
+Denies due (stop.Denied d) = due ≡ Some d
+Denies due (stop.Port f) = ⊥
+Denies due stop.OutOfMemory = Unit {0}
+
+abbrev pub Decides : {A : Type 0} → Option Denial → (A → Type 0) → Result A Stop → Type 0
+Decides due Is (Ok a) = (due ≡ None) × Is a
+Decides due Is (Err s) = Denies due s
+
+-- a place, the revisions that are asked for, and the sets up to the newest of all
+pub record IsSought (x : Repository) (a : Place) (ns : List ℕ) (s : declared_sought.Sought) : Type 0 where
+  pub from : s.from ≡ a
+  pub numbers : s.numbers.items ≡ ns
+  pub sets : s.sets.items ≡ take (suc (newest a.revision ns)) x.sets
+
+-- why a call stopped, as it is told behind other bytes
+pub record TellsBehind (front : List ℕ) (before now : Option (List ℕ)) (s : Stop) : Type 0 where
+  pub mid : Option (List ℕ)
+  pub told : Appends before mid front
+  pub stop : TellsStop mid now s
+
+-- what was found of the places, and whether it may be told, is told behind them
+pub record TellsFound (Is : Found → Type 0) (before now : Option (List ℕ)) : Type 0 where
+  pub found : Found
+  pub is : Is found
+  pub bytes : Appends before now ((places_told (places_of found) ++ spell end_item) ++ unless_denied (found_denied found) (spell done))
+
+abbrev pub TellsLocations : declared_sought.Sought → Option (List ℕ) → Option (List ℕ) → Type 0
+TellsLocations s before now = TellsFound (FindsPlaces s.sets.items s.from s.numbers.items) before now
+
 -- ---- answers
 
--- behind what the writer held stands what a command is told, where the port refused it by itself only if its count rose
+-- behind what the writer held stands what a command is told, where what is told of histories is what these have, and the port refused
+-- it by itself only if its count rose
 pub record Replied (x : Repository) (at : Url) (c : Ask) (rose : Type 0) (before now : Option (List ℕ)) : Type 0 where
   pub halt : Option PortFault
+  pub found : Found
+  pub has : MayFind x at c halt found
   pub lawful : MayHalt (Ok c) halt
   pub counted : IsCalm halt ⊎ rose
-  pub bytes : Appends before now (told x at c halt)
+  pub bytes : Appends before now (told x at c found halt)
 
 -- the same of an item
 pub record Answered (x : Repository) (at : Url) (read : Reading) (rose : Type 0) (before now : Option (List ℕ)) : Type 0 where
   pub halt : Option PortFault
+  pub found : Found
+  pub has : MayHave x at read halt found
   pub lawful : MayHalt read halt
   pub counted : IsCalm halt ⊎ rose
-  pub bytes : Appends before now (answer x at read halt)
+  pub bytes : Appends before now (answer x at read found halt)
 
 -- a call told a command: where the port's repository was known
 abbrev pub Tells : {P W : Type 0} → (P → Option Repository) → (P → ℕ) → (W → Option (List ℕ)) → Url → Ask → P → P → W → W → Type 0

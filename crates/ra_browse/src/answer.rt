@@ -20,6 +20,7 @@ use crate::ask::{props_asked, tree_asked};
 use crate::denial::Denial;
 use crate::dir::get_dir;
 use crate::file::{Wanted, get_file};
+use crate::location::get_locations;
 use crate::look::joined;
 use crate::place::reparent;
 use crate::stat::stat;
@@ -112,6 +113,7 @@ fn is_answered(command: &BrowseCommand) -> bool
         BrowseCommand::Reparent(_) => true,
         BrowseCommand::GetLock(_) => true,
         BrowseCommand::GetLocks(..) => true,
+        BrowseCommand::GetLocations(..) => true,
         _ => false,
     }
 }
@@ -157,7 +159,9 @@ fn reply<P: RepoPort, W: Write + Drop>(
         BrowseCommand::GetLock(_) => no_lock(out),
         BrowseCommand::GetLocks(..) => no_lock(out),
         BrowseCommand::Log(_) => deny(Denial::Unsupported, out),
-        BrowseCommand::GetLocations(..) => deny(Denial::Unsupported, out),
+        BrowseCommand::GetLocations(path, peg, numbers) => {
+            get_locations(alloc, port, place, path, *peg, numbers.as_slice(), out)
+        }
         BrowseCommand::GetLocationSegments(..) => deny(Denial::Unsupported, out),
         BrowseCommand::GetFileRevs(..) => deny(Denial::Unsupported, out),
         BrowseCommand::Update(_) => deny(Denial::Unsupported, out),

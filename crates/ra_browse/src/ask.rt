@@ -11,7 +11,7 @@ use path_tree::Tree;
 use ra_serve::{PortFault, RepoPort};
 
 /// The revision of a number. NoSuchRevision (21) for one that no repository has.
-fn revision<P: RepoPort>(port: &P, number: u64) -> Result<RevNo, PortFault>
+pub fn revision<P: RepoPort>(port: &P, number: u64) -> Result<RevNo, PortFault>
     ensures number { IfOk result (λ n. n ≡ number) }
     ensures fault { IfErr result (λ f. f ≡ PortFault.NoSuchRevision) }
     ensures above { (x : Repository) → P.repository port.now ≡ Some x

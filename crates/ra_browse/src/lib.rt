@@ -19,6 +19,7 @@ mod denial;
 mod dir;
 mod file;
 pub mod law;
+mod location;
 mod look;
 mod made;
 mod pieces;

@@ -8,11 +8,13 @@ ghost use Rattle.ra_wire.specs.Replies.{answer_of, list, failure};
 ghost use Rattle.ra_serve.specs.Answers.{refused};
 ghost use Rattle.ra_serve.specs.Ports.{refusal_of};
 ghost use Rattle.ra_browse.specs.Denials.{denied};
-ghost use Rattle.ra_browse.specs.Tellings.{TellsStop};
+ghost use Rattle.browse_wire.specs.Told.{end_item};
+ghost use Rattle.ra_browse.specs.Tellings.{TellsBehind, TellsStop};
 
 use crate::denial::Denial;
 use crate::pieces::{write_end, write_name};
 use crate::stop::Stop;
+use browse_wire::told::write_last;
 use ra_item::writer::{write_close, write_number, write_open, write_text};
 use ra_serve::{PortFault, ServeFault};
 use ra_wire::reply_writer::write_failure;
@@ -37,6 +39,15 @@ pub fn tell<W: Write + Drop>(stop: Stop, out: W) -> Result<W, ServeFault>
         Stop::Port(fault) => refuse(fault, out),
         Stop::OutOfMemory => Err(ServeFault::OutOfMemory),
     }
+}
+
+/// Tells that a list is at its end, and then why a call stopped.
+pub fn tell_behind_last<W: Write + Drop>(stop: Stop, out: W) -> Result<W, ServeFault>
+    ensures { IfOk result (λ w. TellsBehind (spell end_item) (W.contents out) (W.contents w) stop) }
+{
+    let mut out = out;
+    write_last(&mut out)?;
+    tell(stop, out)
 }
 
 // Tells a refusal of the port.

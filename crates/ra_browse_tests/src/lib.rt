@@ -10,6 +10,8 @@ mod answer_tests;
 #[cfg(test)]
 mod failure_tests;
 #[cfg(test)]
+mod history_session_tests;
+#[cfg(test)]
 mod history_tests;
 #[cfg(test)]
 mod opening_tests;

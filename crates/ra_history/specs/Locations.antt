@@ -35,9 +35,9 @@ abbrev pub AreLocations : Sets → Place → List ℕ → List Place → Type 0
 AreLocations sets a [] told = told ≡ []
 AreLocations sets a (n ∷ ns) told = (o : Option Place) × (rest : List Place) × IsLocation sets a n o × AreLocations sets a ns rest × (told ≡ perhaps o ++ rest)
 
--- they stand behind others
-abbrev pub AreBehind : Sets → Place → List ℕ → List Place → List Place → Type 0
-AreBehind sets a ns old new = (told : List Place) × AreLocations sets a ns told × (new ≡ old ++ told)
+-- that of one more stands behind others
+abbrev pub IsPushed : Sets → Place → ℕ → List Place → List Place → Type 0
+IsPushed sets a n old new = (o : Option Place) × IsLocation sets a n o × (new ≡ old ++ perhaps o)
 
 -- from where it is looked for in one of them a line has a path past the limits
 pub record IsOneTooLong (sets : Sets) (a : Place) (ns : List ℕ) : Type 0 where

@@ -1,5 +1,5 @@
 -- What calls that ask a port for sets say of it.
-use Rattle.std.specs.Prelude.{◌≡◌, ℕ, Bool, Option, Some, Result, Ok, Err}
+use Rattle.std.specs.Prelude.{◌≡◌, ℕ, Bool, Option, Some, None, Result, Ok, Err}
 use Rattle.node_base.specs.declared.refusal.Refusal.{Refusal}
 use Rattle.repo_core.specs.Repository.{Repository}
 use Rattle.ra_serve.specs.Ports.{MayRefuse, Stays}
@@ -11,9 +11,9 @@ abbrev pub MayStop : ℕ → ℕ → Option Refusal → SetsStop → Type 0
 MayStop before now due (stop.Port f) = MayRefuse before now f due
 MayStop before now due stop.OutOfMemory = Unit {0}
 
--- what a call came to: such a value, or why it stopped
+-- what a call came to: such a value where nothing is due, or why it stopped
 abbrev pub Comes : {A : Type 0} → ℕ → ℕ → Option Refusal → (A → Type 0) → Result A SetsStop → Type 0
-Comes before now due Is (Ok a) = Is a
+Comes before now due Is (Ok a) = (due ≡ None) × Is a
 Comes before now due Is (Err s) = MayStop before now due s
 
 -- the same of a port, where its repository was known

@@ -4,7 +4,7 @@ ghost use Rattle.std.specs.Prelude.{◌≡◌, IfOk, IfErr, OnOk, true};
 ghost use Rattle.node_base.specs.Path.{same_path};
 ghost use Rattle.path_history.specs.Histories.{IsTooLong};
 ghost use Rattle.path_history.specs.declared.fault.HistoryFault.TheVariants.{TooLong};
-ghost use Rattle.ra_history.specs.Locations.{IsLocation, IsLater, later, seen_from, AreBehind, AreLocations, IsOneTooLong};
+ghost use Rattle.ra_history.specs.Locations.{IsLocation, IsLater, later, seen_from, IsPushed, AreLocations, IsOneTooLong};
 
 use node_base::{NodePath, RevNo, compare_paths};
 use path_history::{HistoryFault, Place, Sets, place_at};
@@ -66,26 +66,26 @@ pub fn location_of<S: Sets>(
     }
 }
 
-// Puts where it stood in each of these revisions behind others.
-fn push_locations<S: Sets>(
+// Puts where it stood in a revision behind others.
+fn push_location<S: Sets>(
     alloc: Global,
     sets: &S,
     from: &Place,
-    numbers: &[RevNo],
+    revision: RevNo,
     told: &mut Vec<Place>,
 ) -> Result<(), HistoryFault>
-    ensures told { OnOk result (AreBehind (S.sets sets.now) from.now numbers.now told.old.items told.new.items) }
-    ensures refused { IfErr result (λ e. e ≡ TooLong → IsOneTooLong (S.sets sets.now) from.now numbers.now) }
+    ensures told { OnOk result (IsPushed (S.sets sets.now) from.now revision told.old.items told.new.items) }
+    ensures refused { IfErr result (λ e. e ≡ TooLong
+        → IsTooLong true (S.sets sets.now) (seen_from from.now revision)) }
 {
-    let Some((number, others)) = numbers.split_first() else {
-        return Ok(());
-    };
-    match location_of(alloc, sets, from, *number) {
-        Ok(Some(place)) => told.push(place)?,
-        Ok(None) => {}
-        Err(fault) => return Err(fault),
+    match location_of(alloc, sets, from, revision) {
+        Ok(Some(place)) => {
+            told.push(place)?;
+            Ok(())
+        }
+        Ok(None) => Ok(()),
+        Err(fault) => Err(fault),
     }
-    push_locations(alloc, sets, from, others, told)
 }
 
 /// Where what stands at a place stood in each of these revisions, in their order; nothing for one in which it is nowhere.
@@ -100,8 +100,11 @@ pub fn locations_of<S: Sets>(
     ensures refused { IfErr result (λ e. e ≡ TooLong → IsOneTooLong (S.sets sets.now) from.now numbers.now) }
 {
     let mut told = Vec::new(alloc);
-    match push_locations(alloc, sets, from, numbers, &mut told) {
-        Ok(()) => Ok(told),
-        Err(fault) => Err(fault),
+    for number in numbers {
+        match push_location(alloc, sets, from, *number, &mut told) {
+            Ok(()) => {}
+            Err(fault) => return Err(fault),
+        }
     }
+    Ok(told)
 }

@@ -8,5 +8,5 @@ use Rattle.ra_browse.proofs.answer.latest.Goals as goal
 
 pub returns-in-Err-clause-told : goal.returns-in-Err-clause-told
 returns-in-Err-clause-told g c = λ at.
-    tells_stop g.P.RepoPort.repository g.P.RepoPort.refusals g.W.Write.contents at (Plain LatestRev) c.args.port.now c.latest.new.self c.args.out c.tell.result (stop.Port c.in-Err.fault) (λ x. None) refl c.tell.ensures
+    tells_stop g.P.RepoPort.repository g.P.RepoPort.refusals g.W.Write.contents at (Plain LatestRev) c.args.port.now c.latest.new.self c.args.out c.tell.result (stop.Port c.in-Err.fault) (λ x. None) refl (λ x. (λ h. refl, refl)) c.tell.ensures
     (λ x e. own_stop c.in-Err.fault _ _ (c.in-Err.ensures.refused x e)) (λ x w d. none_denied w _ d)

@@ -13,11 +13,11 @@ use Rattle.ra_browse.proofs.answer.prop.Goals as goal
 
 pub returns-in-Err-clause-told : goal.returns-in-Err-clause-told
 returns-in-Err-clause-told g c = λ at.
-    tells_stop g.P.RepoPort.repository g.P.RepoPort.refusals g.W.Write.contents at (Plain (RevProp c.args.number c.args.name.now)) c.args.port.now c.props_asked.new.port c.args.out c.tell.result c.stopped.result (λ x. no_revision x c.args.number) refl c.tell.ensures
+    tells_stop g.P.RepoPort.repository g.P.RepoPort.refusals g.W.Write.contents at (Plain (RevProp c.args.number c.args.name.now)) c.args.port.now c.props_asked.new.port c.args.out c.tell.result c.stopped.result (λ x. no_revision x c.args.number) refl (λ x. (λ h. refl, refl)) c.tell.ensures
     (λ x e. c.stopped.ensures x _ _ c.args.number (c.in-Err.ensures.refused x e)) (λ x w d. d)
 
 pub returns-in_ok-write_value-in-Ok-clause-told : goal.returns-in_ok-write_value-in-Ok-clause-told
 returns-in_ok-write_value-in-Ok-clause-told g c = λ at x e.
-    told_there x at (Plain (RevProp c.args.number c.args.name.now)) _ _ _ (is_there x c.args.number (c.in-Ok.ensures.there x e))
+    told_there x at (Plain (RevProp c.args.number c.args.name.now)) _ _ _ (λ h. refl, refl) (is_there x c.args.number (c.in-Ok.ensures.there x e))
     (subst (λ v. Appends (g.W.Write.contents c.args.out) (g.W.Write.contents c.write_value.new.out) (spell (value v)))
     (c.get.ensures ∙ ap (λ m. finite.get m c.as_bytes.result.now) (c.in-Ok.ensures.props x e) ∙ ap (finite.get (props_at x.revisions c.args.number)) c.as_bytes.ensures) c.in_ok-write_value-in-Ok.ensures)

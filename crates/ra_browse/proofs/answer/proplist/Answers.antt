@@ -11,10 +11,10 @@ use Rattle.ra_browse.proofs.answer.proplist.Goals as goal
 
 pub returns-in-Err-clause-told : goal.returns-in-Err-clause-told
 returns-in-Err-clause-told g c = λ at.
-    tells_stop g.P.RepoPort.repository g.P.RepoPort.refusals g.W.Write.contents at (Plain (RevProplist c.args.number)) c.args.port.now c.props_asked.new.port c.args.out c.tell.result c.stopped.result (λ x. no_revision x c.args.number) refl c.tell.ensures
+    tells_stop g.P.RepoPort.repository g.P.RepoPort.refusals g.W.Write.contents at (Plain (RevProplist c.args.number)) c.args.port.now c.props_asked.new.port c.args.out c.tell.result c.stopped.result (λ x. no_revision x c.args.number) refl (λ x. (λ h. refl, refl)) c.tell.ensures
     (λ x e. c.stopped.ensures x _ _ c.args.number (c.in-Err.ensures.refused x e)) (λ x w d. d)
 
 pub returns-in_ok-write_proplist-in-Ok-clause-told : goal.returns-in_ok-write_proplist-in-Ok-clause-told
 returns-in_ok-write_proplist-in-Ok-clause-told g c = λ at x e.
-    told_there x at (Plain (RevProplist c.args.number)) _ _ _ (is_there x c.args.number (c.in-Ok.ensures.there x e))
+    told_there x at (Plain (RevProplist c.args.number)) _ _ _ (λ h. refl, refl) (is_there x c.args.number (c.in-Ok.ensures.there x e))
     (subst (λ m. Appends (g.W.Write.contents c.args.out) (g.W.Write.contents c.write_proplist.new.out) (spell (proplist m))) (c.in-Ok.ensures.props x e) c.in_ok-write_proplist-in-Ok.ensures)

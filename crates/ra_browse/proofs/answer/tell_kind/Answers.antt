@@ -16,11 +16,11 @@ use Rattle.ra_browse.proofs.answer.tell_kind.Goals as goal
 
 pub returns-in-Err-clause-told : goal.returns-in-Err-clause-told
 returns-in-Err-clause-told g c = λ at p k.
-    tells_stop g.P.RepoPort.repository g.P.RepoPort.refusals g.W.Write.contents at (Plain (CheckPath p c.args.number)) c.args.port.now c.tree_asked.new.port c.args.out c.tell.result c.stopped.result (λ x. no_revision x (asked x c.args.number)) refl c.tell.ensures
+    tells_stop g.P.RepoPort.repository g.P.RepoPort.refusals g.W.Write.contents at (Plain (CheckPath p c.args.number)) c.args.port.now c.tree_asked.new.port c.args.out c.tell.result c.stopped.result (λ x. no_revision x (asked x c.args.number)) refl (λ x. (λ h. refl, refl)) c.tell.ensures
     (λ x e. c.stopped.ensures x _ _ (asked x c.args.number) (c.in-Err.ensures.refused x e)) (λ x w d. d)
 
 pub returns-in_ok-write_kind-in-Ok-clause-told : goal.returns-in_ok-write_kind-in-Ok-clause-told
 returns-in_ok-write_kind-in-Ok-clause-told g c = λ at p k x e.
-    told_there x at (Plain (CheckPath p c.args.number)) _ _ _ (is_there x (asked x c.args.number) (c.in-Ok.ensures.there x e))
+    told_there x at (Plain (CheckPath p c.args.number)) _ _ _ (λ h. refl, refl) (is_there x (asked x c.args.number) (c.in-Ok.ensures.there x e))
     (subst (λ o. Appends (g.W.Write.contents c.args.out) (g.W.Write.contents c.write_kind.new.out) (spell (kind_is o)))
     (c.kind_at.ensures ∙ ap (λ t. option_map kind_of (finite.get t c.args.names.now)) (c.in-Ok.ensures.tree x e) ∙ ap (λ q. option_map kind_of (finite.get (tree_of x (asked x c.args.number)) q)) k) c.in_ok-write_kind-in-Ok.ensures)

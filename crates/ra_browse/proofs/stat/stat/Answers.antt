@@ -11,10 +11,10 @@ use Rattle.ra_browse.proofs.stat.stat.Goals as goal
 pub returns-in-Ok-clause-told : goal.returns-in-Ok-clause-told
 returns-in-Ok-clause-told g c =
     tells_bytes g.P.RepoPort.repository g.P.RepoPort.refusals g.W.Write.contents (place_as c.args.place.now) (Stat c.args.path.now c.args.number) c.args.port.now c.see.new.port c.args.out c.tell_stat.result
-    (spell (stat_told (finite.get c.in-Ok.seen.tree c.in-Ok.seen.names.items) (made_as c.in-Ok.seen.made))) c.tell_stat.ensures
+    (spell (stat_told (finite.get c.in-Ok.seen.tree c.in-Ok.seen.names.items) (made_as c.in-Ok.seen.made))) (λ x. (λ h. refl, refl)) c.tell_stat.ensures
     (λ x e. let f = c.in-Ok.ensures.found x e in stat_bytes x (place_as c.args.place.now) c.args.path.now c.args.number c.in-Ok.seen f.0 f.1)
 
 pub returns-in-Err-clause-told : goal.returns-in-Err-clause-told
 returns-in-Err-clause-told g c =
     tells_stop g.P.RepoPort.repository g.P.RepoPort.refusals g.W.Write.contents (place_as c.args.place.now) (Stat c.args.path.now c.args.number) c.args.port.now c.see.new.port c.args.out c.tell.result c.in-Err.stop
-    (λ x. no_revision x (asked x c.args.number)) refl c.tell.ensures c.in-Err.ensures.found (λ x w d. d)
+    (λ x. no_revision x (asked x c.args.number)) refl (λ x. (λ h. refl, refl)) c.tell.ensures c.in-Err.ensures.found (λ x w d. d)

@@ -1,0 +1,8 @@
+use Rattle.ra_browse.proofs.Located.{located_told, long_told}
+use Rattle.ra_browse.proofs.location.tell_sought.Goals as goal
+
+pub returns-in-Ok : goal.returns-in-Ok
+returns-in-Ok g c = located_told g.W.Write.contents c.args.sought.now c.deref.result.now c.deref-2.result.now c.deref-in-Ok.result.now c.in-Ok.places.items c.args.out c.tell_places.result c.deref.ensures.value c.deref-2.ensures.value c.deref-in-Ok.ensures.value c.in-Ok.ensures.places c.tell_places.ensures
+
+pub returns-in-Err-TooLong : goal.returns-in-Err-TooLong
+returns-in-Err-TooLong g c = long_told g.W.Write.contents c.args.sought.now c.deref.result.now c.deref-2.result.now c.args.out c.tell_behind_last.result c.deref.ensures.value c.deref-2.ensures.value (c.in-Err-TooLong.ensures.refused c.in-Err-TooLong.field-0-is) c.tell_behind_last.ensures

@@ -1,0 +1,274 @@
+//! Where a node stood in other revisions.
+
+ghost use Rattle.std.specs.Prelude.{◌≡◌, ◌++◌, suc, take, is_none, true, Some, IfOk, IfErr, OnOk};
+ghost use Rattle.node_base.specs.Limits.{fits};
+ghost use Rattle.std.specs.FinMap as finite;
+ghost use Rattle.std.specs.Io.KnownBytes.{Appends};
+ghost use Rattle.repo_core.specs.Repository.{Repository};
+ghost use Rattle.ra_item.specs.Items.{spell};
+ghost use Rattle.ra_wire.specs.Replies.{done};
+ghost use Rattle.browse_wire.specs.Asks.{Locations};
+ghost use Rattle.browse_wire.specs.Told.{end_item};
+ghost use Rattle.path_history.specs.Places.{place};
+ghost use Rattle.ra_browse.specs.Histories.{newer, newest, places_told};
+ghost use Rattle.ra_browse.specs.Answers.{no_revision, place_denied, stood_denied, locations_denied};
+ghost use Rattle.ra_browse.specs.Tellings.{place_as, Decides, Denies, Finds, PortStays, Tells, IsSought, TellsLocations};
+
+use crate::ask::{revision, tree_asked};
+use crate::denial::Denial;
+use crate::stop::{Stop, stopped};
+use crate::told::tell_behind_last;
+use browse_wire::told::{write_last, write_location};
+use browse_wire::url::SessionUrl;
+use dump_load::ChangeSet;
+use node_base::{NodePath, RevNo};
+use path_history::{HistoryFault, Place, SetRow, joined};
+use path_tree::Tree;
+use ra_history::{SetsStop, locations_of, sets_up_to};
+use ra_serve::{RepoPort, ServeFault};
+use ra_wire::reply_writer::write_done;
+use std::alloc::Global;
+use std::io;
+use std::io::Write;
+
+/// A place, the revisions for which it is asked where what stands there stood, and the sets up to the newest of all.
+#[derive(Drop)]
+pub struct Sought {
+    from: Place,
+    numbers: Vec<RevNo>,
+    sets: Vec<ChangeSet>,
+}
+
+/// Answers `get-locations`.
+pub fn get_locations<P: RepoPort, W: Write + Drop>(
+    alloc: Global,
+    port: &mut P,
+    place: &SessionUrl,
+    path: &NodePath,
+    peg: u64,
+    numbers: &[u64],
+    out: W,
+) -> Result<W, ServeFault>
+    ensures told { IfOk result (Tells P.repository P.refusals W.contents (place_as place.now)
+        (Locations path.now peg numbers.now) port.old port.new out) }
+    ensures stays { PortStays P.repository P.refusals P.is_mirror port.old port.new }
+{
+    match seek(alloc, port, &place.path, path, peg, numbers) {
+        Ok(sought) => tell_sought(alloc, &sought, out),
+        Err(stop) => tell_behind_last(stop, out),
+    }
+}
+
+// What is looked for.
+fn seek<P: RepoPort>(
+    alloc: Global,
+    port: &mut P,
+    base: &NodePath,
+    path: &NodePath,
+    peg: u64,
+    numbers: &[u64],
+) -> Result<Sought, Stop>
+    ensures found { Finds P.repository P.refusals (λ x. locations_denied x (base.now ++ path.now) peg numbers.now)
+        (λ x s. IsSought x (place peg (base.now ++ path.now)) numbers.now s) port.old port.new result }
+    ensures stays { PortStays P.repository P.refusals P.is_mirror port.old port.new }
+{
+    match stood(alloc, port, base, path, peg) {
+        Ok(from) => seek_from(alloc, port, from, numbers),
+        Err(stop) => Err(stop),
+    }
+}
+
+// The same of a place.
+fn seek_from<P: RepoPort>(
+    alloc: Global,
+    port: &mut P,
+    from: Place,
+    numbers: &[u64],
+) -> Result<Sought, Stop>
+    ensures found { Finds P.repository P.refusals (λ x. no_revision x (newest from.revision numbers.now))
+        (λ x s. IsSought x from numbers.now s) port.old port.new result }
+    ensures stays { PortStays P.repository P.refusals P.is_mirror port.old port.new }
+{
+    match reached(alloc, port, from.revision, numbers) {
+        Ok((numbers, sets)) => Ok(Sought {
+            from,
+            numbers,
+            sets,
+        }),
+        Err(stop) => Err(stop),
+    }
+}
+
+// The place of a path behind another in a revision, where something stands there.
+fn stood<P: RepoPort>(
+    alloc: Global,
+    port: &mut P,
+    base: &NodePath,
+    path: &NodePath,
+    number: u64,
+) -> Result<Place, Stop>
+    ensures found { Finds P.repository P.refusals (λ x. stood_denied x (base.now ++ path.now) number)
+        (λ x a. a ≡ place number (base.now ++ path.now)) port.old port.new result }
+    ensures stays { PortStays P.repository P.refusals P.is_mirror port.old port.new }
+{
+    match tree_asked(port, Some(number)) {
+        Ok((revision, tree)) => place_in(alloc, &tree, revision, base, path),
+        Err(fault) => Err(stopped(fault)),
+    }
+}
+
+// The same of a revision's tree.
+fn place_in(
+    alloc: Global,
+    tree: &Tree,
+    revision: RevNo,
+    base: &NodePath,
+    path: &NodePath,
+) -> Result<Place, Stop>
+    ensures { Decides (place_denied (base.now ++ path.now) (finite.get tree.now (base.now ++ path.now)))
+        (λ a. a ≡ place revision (base.now ++ path.now)) result }
+{
+    match path_in(alloc, tree, base, path) {
+        Ok(path) => Ok(Place { path, revision }),
+        Err(stop) => Err(stop),
+    }
+}
+
+// A path behind another, where something stands there.
+fn path_in(alloc: Global, tree: &Tree, base: &NodePath, path: &NodePath) -> Result<NodePath, Stop>
+    ensures { Decides (place_denied (base.now ++ path.now) (finite.get tree.now (base.now ++ path.now)))
+        (λ p. p ≡ base.now ++ path.now) result }
+{
+    let whole = match joined(alloc, base, path.names()) {
+        Ok(whole) => whole,
+        Err(HistoryFault::TooLong) => return Err(Stop::Denied(Denial::NoPath)),
+        Err(HistoryFault::OutOfMemory) => return Err(Stop::OutOfMemory),
+    };
+    if is_empty_at(tree, &whole) {
+        return Err(Stop::Denied(Denial::NoPath));
+    }
+    Ok(whole)
+}
+
+// Whether nothing stands at a path.
+fn is_empty_at(tree: &Tree, path: &NodePath) -> bool
+    ensures empty { result ≡ is_none (finite.get tree.now path.now) }
+    ensures small { fits path.now ≡ true }
+{
+    tree.get(path.names()).is_none()
+}
+
+// The revisions of these numbers, and the sets up to the newest of them and of another.
+fn reached<P: RepoPort>(
+    alloc: Global,
+    port: &mut P,
+    peg: RevNo,
+    numbers: &[u64],
+) -> Result<(Vec<RevNo>, Vec<ChangeSet>), Stop>
+    ensures found { Finds P.repository P.refusals (λ x. no_revision x (newest peg numbers.now))
+        (λ x r. (r.0.items ≡ numbers.now) × (r.1.items ≡ take (suc (newest peg numbers.now)) x.sets))
+        port.old port.new result }
+    ensures stays { PortStays P.repository P.refusals P.is_mirror port.old port.new }
+{
+    match revisions(alloc, port, peg, numbers) {
+        Ok((numbers, last)) => with_sets(alloc, port, last, numbers),
+        Err(stop) => Err(stop),
+    }
+}
+
+// Revisions, and the sets up to another.
+fn with_sets<P: RepoPort>(
+    alloc: Global,
+    port: &mut P,
+    last: RevNo,
+    numbers: Vec<RevNo>,
+) -> Result<(Vec<RevNo>, Vec<ChangeSet>), Stop>
+    ensures found { Finds P.repository P.refusals (λ x. no_revision x last)
+        (λ x r. (r.0.items ≡ numbers.items) × (r.1.items ≡ take (suc last) x.sets)) port.old port.new result }
+    ensures stays { PortStays P.repository P.refusals P.is_mirror port.old port.new }
+{
+    match shared(alloc, port, last) {
+        Ok(sets) => Ok((numbers, sets)),
+        Err(stop) => Err(stop),
+    }
+}
+
+// The revisions of these numbers, and the newest of them and of another.
+fn revisions<P: RepoPort>(
+    alloc: Global,
+    port: &P,
+    peg: RevNo,
+    numbers: &[u64],
+) -> Result<(Vec<RevNo>, RevNo), Stop>
+    ensures numbers { IfOk result (λ r. r.0.items ≡ numbers.now) }
+    ensures newest { IfOk result (λ r. r.1 ≡ newest peg numbers.now) }
+    ensures above { (x : Repository) → P.repository port.now ≡ Some x
+        → IfErr result (Denies (no_revision x (newest peg numbers.now))) }
+{
+    let mut told = Vec::new(alloc);
+    let mut last = peg;
+    for number in numbers {
+        let next = match revision(port, *number) {
+            Ok(next) => next,
+            Err(_) => return Err(Stop::Denied(Denial::NoRevision)),
+        };
+        if told.push(next).is_err() {
+            return Err(Stop::OutOfMemory);
+        }
+        last = newer(last, next);
+    }
+    Ok((told, last))
+}
+
+// The newer of two revisions.
+fn newer(one: RevNo, other: RevNo) -> RevNo
+    ensures { result ≡ newer one other }
+{
+    if one.get() < other.get() { other } else { one }
+}
+
+// The sets of the revisions from 0 up to one.
+fn shared<P: RepoPort>(alloc: Global, port: &mut P, last: RevNo) -> Result<Vec<ChangeSet>, Stop>
+    ensures found { Finds P.repository P.refusals (λ x. no_revision x last)
+        (λ x v. v.items ≡ take (suc last) x.sets) port.old port.new result }
+    ensures stays { PortStays P.repository P.refusals P.is_mirror port.old port.new }
+{
+    match sets_up_to(alloc, port, last) {
+        Ok(sets) => Ok(sets),
+        Err(SetsStop::Port(fault)) => Err(stopped(fault)),
+        Err(SetsStop::OutOfMemory) => Err(Stop::OutOfMemory),
+    }
+}
+
+// Tells where what is looked for stood.
+fn tell_sought<W: Write + Drop>(alloc: Global, sought: &Sought, out: W) -> Result<W, ServeFault>
+    ensures { IfOk result (λ w. TellsLocations sought.now (W.contents out) (W.contents w)) }
+{
+    let sets = SetRow { row: &sought.sets };
+    match locations_of(alloc, &sets, &sought.from, &sought.numbers) {
+        Ok(places) => tell_places(&places, out),
+        Err(HistoryFault::TooLong) => tell_behind_last(Stop::Denied(Denial::NoPath), out),
+        Err(HistoryFault::OutOfMemory) => Err(ServeFault::OutOfMemory),
+    }
+}
+
+// Tells places, and that they are all.
+fn tell_places<W: Write + Drop>(places: &[Place], out: W) -> Result<W, ServeFault>
+    ensures { IfOk result (λ w. Appends (W.contents out) (W.contents w)
+        ((places_told places.now ++ spell end_item) ++ spell done)) }
+{
+    let mut out = out;
+    write_places(&mut out, places)?;
+    write_last(&mut out)?;
+    write_done(&mut out)?;
+    Ok(out)
+}
+
+fn write_places<W: Write>(out: &mut W, places: &[Place]) -> io::Result<()>
+    ensures { OnOk result (Appends (W.contents out.old) (W.contents out.new) (places_told places.now)) }
+{
+    for place in places {
+        write_location(out, u64::from(place.revision.get()), &place.path)?;
+    }
+    Ok(())
+}
