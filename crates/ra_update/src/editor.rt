@@ -9,7 +9,8 @@ ghost use Rattle.delta_editor.specs.declared.call.Call.TheVariants as call;
 ghost use Rattle.delta_editor.specs.declared.fault.EditorFault.TheVariants.{OutOfMemory, PeerFailed};
 ghost use Rattle.ra_edit.specs.Wire.{Shows, held_before};
 ghost use Rattle.ra_update.specs.Entries.{entry_calls, entry_props, given, revision_prop};
-ghost use Rattle.ra_update.specs.Updated.{Begun, ShowsUpdated, Stopped, begun, begun_with, done_begun_with, path_of_dir, path_of_file, written_by};
+ghost use Rattle.ra_update.specs.Updated.{Begun, ShowsUpdated, Stopped, begun, begun_with, done_begun_with};
+ghost use Rattle.ra_update.specs.Updated.{path_of_dir, path_of_file, written_by};
 
 use crate::facts::Facts;
 use crate::names::EntryNames;

@@ -19,9 +19,9 @@ use std::alloc::{AllocError, Global};
 use std::io::Write;
 use tree_changes::changes_between;
 
-/// Writes behind what the writer has the edit that makes the tree that is wanted of the one that was reported: a target,
-/// the calls that the changes are driven as, each with what a client wants to know beside it, and the end. What differs
-/// in the nodes' numbers alone isn't told.
+/// Writes behind what the writer has the edit that makes the tree that is wanted of the one that was reported: a
+/// target, the calls that the changes are driven as, each with what a client wants to know beside it, and the end. What
+/// differs in the nodes' numbers alone isn't told.
 ///
 /// Refused: for want of memory (70), with `PeerFailed` (49) where the writer failed, and with the first fault of the
 /// changes over the tree that was reported. The writer is let go of then.
