@@ -1,5 +1,5 @@
 -- The calls of an update make what is wanted.
-use Rattle.std.proofs.Common.{◌≡◌, ℕ, List, [], ◌∷◌, ◌++◌, Option, Some, None, Result, Ok, Err, IfOk, OnOk, sym, ap, subst, ◌∙◌}
+use Rattle.std.proofs.Common.{◌≡◌, ℕ, List, [], ◌∷◌, ◌++◌, Option, Some, None, Result, Ok, Err, IfOk, IfErr, OnOk, inr, sym, ap, subst, ◌∙◌}
 use Rattle.std.specs.Option.{option_map, option_map_or}
 use Rattle.std.specs.FinMap as finite
 use Rattle.std.specs.Io.KnownBytes.{Appends}
@@ -21,8 +21,9 @@ use Rattle.ra_edit.specs.Commands.{edit_bytes}
 use Rattle.tree_changes.specs.Changes.{AreBetween}
 use Rattle.tree_reports.specs.Applied.{Content, content}
 use Rattle.ra_update.specs.Alike.{AreAlike}
-use Rattle.ra_update.specs.Sent.{up_to_end, calls_told, end_item, Make}
-use Rattle.ra_update.specs.Updates.{IsUpdate}
+use Rattle.ra_update.specs.Sent.{up_to_end, calls_told, end_item, Make, IsUnsent}
+use Rattle.ra_update.specs.Updates.{IsUpdate, MayStop}
+use Rattle.delta_editor.specs.declared.fault.EditorFault.{EditorFault}
 use Rattle.ra_update.specs.declared.facts.Facts.{Facts}
 use Rattle.ra_update.proofs.Alike.{alike_itself, all_alike}
 use Rattle.ra_update.proofs.Nested.{drive_is}
@@ -69,3 +70,7 @@ pub both_written : {T F : Type 0} (contents : T → Option (List ℕ)) (k : Fact
 both_written contents k m trees items s out mid (Ok w) e is first second =
     appends_join (contents out) (contents mid) (contents w) (edit_bytes (calls_told k (m ∷ []) s)) (spell end_item) (subst (λ l. Appends (contents out) (contents mid) (edit_bytes (calls_told k l s))) (e ∙ is) first) second
 both_written contents k m trees items s out mid (Err f) e is first second = tt
+
+pub may_stop : {X : Type 0} (m wanted : PathMap) (s items : List Change) (r : Result X EditorFault) → s ≡ items → AreBetween m wanted items → IfErr r (IsUnsent (m ∷ []) s) → IfErr r (MayStop m wanted)
+may_stop m wanted s items (Ok x) e between h = tt
+may_stop m wanted s items (Err f) e between h = inr (s, subst (AreBetween m wanted) (sym e) between, h)

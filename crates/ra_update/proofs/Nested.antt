@@ -1,9 +1,12 @@
 -- What is told beside the calls of a drive keeps the nesting, and how calls are carried over.
-use Rattle.std.proofs.Common.{◌≡◌, ℕ, ◌+◌, nat_lt, arith, length-append, Bool, true, false, cond, ◌&&◌, ◌||◌, List, [], ◌∷◌, ◌++◌, length, Option, Some, None, Result, Ok, Err, OnOk, refl, sym, ap, subst, ◌∙◌, append_assoc, append-nil}
+use Rattle.std.proofs.Common.{◌≡◌, ℕ, ◌+◌, nat_lt, arith, length-append, Bool, true, false, cond, ◌&&◌, ◌||◌, List, [], ◌∷◌, ◌++◌, length, Option, Some, None, Result, Ok, Err, IfErr, OnOk, refl, sym, ap, subst, ◌∙◌, append_assoc, append-nil}
 use Rattle.std.proofs.lemmas.Bool.Decides.{nat_tests}
 use Rattle.std.specs.Option.{option_map_or, option_and_then}
 use Rattle.std.specs.List.{list_any, list_all, AllByRecursion}
 use Rattle.editor_ends.specs.Laws.{GoesDown}
+use Rattle.editor_ends.specs.Shown.{Halts, Memory, Faulty, Refusal}
+use Rattle.delta_editor.specs.declared.fault.EditorFault.{EditorFault}
+use Rattle.delta_editor.specs.declared.fault.EditorFault.TheVariants.{PeerFailed}
 use Rattle.std.specs.FinMap as finite
 use Rattle.node_base.specs.Path.{Name, Path}
 use Rattle.node_base.specs.declared.node.Node.{Node}
@@ -16,8 +19,8 @@ use Rattle.node_base.specs.Tree.{PathMap}
 use Rattle.dump_load.specs.declared.change.Change.{Change}
 use Rattle.editor_ends.specs.Drive.{base_number, walk, drive}
 use Rattle.ra_edit.specs.Commands.{edit_bytes}
-use Rattle.ra_update.specs.Sent.{up_to_end, calls_told}
-use Rattle.ra_update.specs.Updated.{ShowsUpdated, begun, begun_with, written_by}
+use Rattle.ra_update.specs.Sent.{up_to_end, calls_told, IsUnsent, OfMemory, OfWriter, OfChanges}
+use Rattle.ra_update.specs.Updated.{Stopped, ShowsUpdated, begun, begun_with, written_by}
 use Rattle.ra_update.specs.declared.editor.UpdateEditor.{UpdateEditor}
 use Rattle.delta_editor.specs.Nesting.{IsNested, Opened, OpenDir, OpenFile, Stage, Before, Within, After, is_dir, innermost, next, run}
 use Rattle.ra_edit.specs.Wire.{Shows, is_deeper, AllDeeper}
@@ -240,6 +243,23 @@ pub opened_shown : {T D F : Type 0} (contents : T → Option (List ℕ)) (old mi
     → OnOk r (Adds (Shows contents) mid new es) → OnOk r ((calls : List Call) → Shows contents old (all_updated k calls) → Shows contents new (all_updated k (calls ++ c ∷ [])))
 opened_shown contents old mid new k c head es (Ok x) is one more = carried contents old new k c (subst (Adds (Shows contents) old new) (sym is) (both_added (Shows contents) old mid new (head ∷ []) es one more))
 opened_shown contents old mid new k c head es (Err e) is one more = tt
+
+-- ---- why a call is refused
+
+pub stopped_from : {T X : Type 0} (contents : T → Option (List ℕ)) (old mid : WireEditor T) (r : Result X EditorFault) → ((calls : List Call) → Shows contents old calls → (later : List Call) × Shows contents mid later) → IfErr r (Stopped contents mid) → IfErr r (Stopped contents old)
+stopped_from contents old mid (Ok x) go h = tt
+stopped_from contents old mid (Err f) go h = λ calls. λ s. h (go calls s).0 (go calls s).1
+
+pub opened_refused : {T X : Type 0} (contents : T → Option (List ℕ)) (old mid : WireEditor T) (k : Facts) (head : Call) (r : Result X EditorFault) → Adds (Shows contents) old mid (head ∷ []) → IfErr r (Stopped contents mid)
+    → IfErr r (λ f. (calls : List Call) → Shows contents old (all_updated k calls) → f ≡ PeerFailed)
+opened_refused contents old mid k head (Ok x) one h = tt
+opened_refused contents old mid k head (Err f) one h = λ calls. λ s. h (all_updated k calls ++ head ∷ []) (one (all_updated k calls) s)
+
+pub halts_is : {T : Type 0} (contents : T → Option (List ℕ)) (first : UpdateEditor T) (trees : List PathMap) (s : List Change) (left : List Call) (f : EditorFault) → ShowsUpdated contents first []
+    → Halts (ShowsUpdated contents) (begun_with contents) (λ b calls c e. e ≡ PeerFailed) trees s first left f → IsUnsent trees s f
+halts_is contents first trees s left f new (Memory e) = OfMemory e
+halts_is contents first trees s left f new (Faulty e) = OfChanges e
+halts_is contents first trees s left f new (Refusal stops) = OfWriter (stops.cause [] new)
 
 -- ---- what is written
 

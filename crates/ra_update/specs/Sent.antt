@@ -1,5 +1,10 @@
 -- What is written of an update.
-use Rattle.std.specs.Prelude.{List, [], ◌∷◌, ◌++◌, length}
+use Rattle.delta_editor.specs.declared.fault.EditorFault.TheVariants.{OutOfMemory, PeerFailed}
+use Rattle.delta_editor.specs.declared.fault.EditorFault.{EditorFault}
+use Rattle.delta_editor.specs.Faults.{refused}
+use Rattle.dump_load.specs.Faults.{fault}
+use Rattle.std.specs.Option.{option_map}
+use Rattle.std.specs.Prelude.{List, [], ◌∷◌, ◌++◌, length, ◌≡◌, Some}
 use Rattle.std.specs.FinMap as finite
 use Rattle.node_base.specs.Path.{Path}
 use Rattle.node_base.specs.Tree.{PathMap}
@@ -31,3 +36,9 @@ calls_told k trees s = all_updated k (up_to_end trees s)
 -- applied to what was reported, the calls give what is wanted, but for the properties that are told beside a node's own
 abbrev pub Make : PathMap → PathMap → List Call → Type 0
 Make reported wanted calls = (q : Path) → AreAlike (all_called (reported ∷ []) (finite.get reported) calls q) (finite.get wanted q)
+
+-- memory ran out, the writer failed, or it is the first fault of the changes
+pub data IsUnsent (trees : List PathMap) (s : List Change) (f : EditorFault) : Type 0 where
+  OfMemory : f ≡ OutOfMemory → IsUnsent trees s f
+  OfWriter : f ≡ PeerFailed → IsUnsent trees s f
+  OfChanges : option_map refused (fault trees s) ≡ Some f → IsUnsent trees s f

@@ -1,8 +1,11 @@
 -- What an editor that writes an update was shown.
-use Rattle.std.specs.Prelude.{ℕ, List, Option}
+use Rattle.std.specs.Prelude.{◌≡◌, ℕ, List, Option}
 use Rattle.node_base.specs.Path.{Path}
 use Rattle.delta_editor.specs.declared.call.Call.{Call}
 use Rattle.ra_edit.specs.Wire.{Shows, held_before, done_held_before, inner_of}
+use Rattle.delta_editor.specs.declared.fault.EditorFault.{EditorFault}
+use Rattle.delta_editor.specs.declared.fault.EditorFault.TheVariants.{PeerFailed}
+use Rattle.ra_edit.specs.declared.wire.WireEditor.{WireEditor}
 use Rattle.ra_edit.specs.declared.wire.WireDir.{WireDir}
 use Rattle.ra_edit.specs.declared.wire.WireFile.{WireFile}
 use Rattle.ra_update.specs.Entries.{all_updated}
@@ -36,3 +39,7 @@ written_by e = inner_of e.inner
 -- what it writes with was shown the calls with what is told beside them
 abbrev pub ShowsUpdated : {T : Type 0} → (T → Option (List ℕ)) → UpdateEditor T → List Call → Type 0
 ShowsUpdated contents e calls = Shows contents e.inner (all_updated e.facts.now calls)
+
+-- whatever was shown, the refusal is that the writer failed
+abbrev pub Stopped : {T : Type 0} → (T → Option (List ℕ)) → WireEditor T → EditorFault → Type 0
+Stopped contents e f = (calls : List Call) → Shows contents e calls → f ≡ PeerFailed

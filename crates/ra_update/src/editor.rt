@@ -6,10 +6,11 @@ ghost use Rattle.std.specs.FinMap as finite;
 ghost use Rattle.node_base.specs.Path.{Path};
 ghost use Rattle.delta_editor.specs.Calls.{Adds};
 ghost use Rattle.delta_editor.specs.declared.call.Call.TheVariants as call;
-ghost use Rattle.delta_editor.specs.declared.fault.EditorFault.TheVariants.{OutOfMemory};
+ghost use Rattle.delta_editor.specs.declared.fault.EditorFault.TheVariants.{OutOfMemory, PeerFailed};
 ghost use Rattle.ra_edit.specs.Wire.{Shows, held_before};
 ghost use Rattle.ra_update.specs.Entries.{entry_calls, entry_props, given, revision_prop};
-ghost use Rattle.ra_update.specs.Updated.{Begun, ShowsUpdated, begun, begun_with, done_begun_with, path_of_dir, path_of_file, written_by};
+ghost use Rattle.ra_update.specs.Updated.{Begun, ShowsUpdated, Stopped, begun, begun_with, done_begun_with};
+ghost use Rattle.ra_update.specs.Updated.{path_of_dir, path_of_file, written_by};
 
 use crate::facts::Facts;
 use crate::names::EntryNames;
@@ -89,6 +90,7 @@ fn tell_dir<W: Write + Drop>(
 ) -> Result<(), EditorFault>
     ensures shown { OnOk result (Adds (Shows W.contents) editor.old editor.new
         (given (call.DirProp (path_of_dir dir.old)) (entry_props facts.now node.now))) }
+    ensures refused { IfErr result (Stopped W.contents editor.old) }
     ensures baton { path_of_dir dir.new ≡ path_of_dir dir.old }
     ensures began { held_before W.contents editor.new ≡ held_before W.contents editor.old }
 {
@@ -114,6 +116,7 @@ fn tell_file<W: Write + Drop>(
 ) -> Result<(), EditorFault>
     ensures shown { OnOk result (Adds (Shows W.contents) editor.old editor.new
         (given (call.FileProp (path_of_file file.old)) (entry_props facts.now node.now))) }
+    ensures refused { IfErr result (Stopped W.contents editor.old) }
     ensures baton { path_of_file file.new ≡ path_of_file file.old }
     ensures began { held_before W.contents editor.new ≡ held_before W.contents editor.old }
 {
@@ -140,6 +143,7 @@ fn entered<W: Write + Drop>(
     requires { path_of_dir dir ≡ path.now }
     ensures shown { OnOk result
         (Adds (Shows W.contents) editor.old editor.new (entry_calls facts.now call.DirProp path.now)) }
+    ensures refused { IfErr result (Stopped W.contents editor.old) }
     ensures baton { IfOk result (λ d. path_of_dir d ≡ path.now) }
     ensures began { held_before W.contents editor.new ≡ held_before W.contents editor.old }
 {
@@ -167,6 +171,7 @@ fn started<W: Write + Drop>(
     requires { path_of_file file ≡ path.now }
     ensures shown { OnOk result
         (Adds (Shows W.contents) editor.old editor.new (entry_calls facts.now call.FileProp path.now)) }
+    ensures refused { IfErr result (Stopped W.contents editor.old) }
     ensures baton { IfOk result (λ f. path_of_file f ≡ path.now) }
     ensures began { held_before W.contents editor.new ≡ held_before W.contents editor.old }
 {
@@ -204,8 +209,7 @@ impl<'a, W: Write + Drop> Editor for UpdateEditor<'a, W> {
 
     ghost done_began = { done_begun_with W.contents };
 
-    // Why a call is refused isn't said.
-    ghost refuses = { λ begun calls c e. Unit {0} };
+    ghost refuses = { λ begun calls c e. e ≡ PeerFailed };
 
     fn target(&mut self, _rev: RevNo) -> Result<(), EditorFault> {
         self.inner.target(self.facts.number)

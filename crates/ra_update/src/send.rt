@@ -1,13 +1,14 @@
 //! Changes as the bytes of an update.
 
-ghost use Rattle.std.specs.Prelude.{◌≡◌, ◌≤◌, ◌++◌, ◌∷◌, [], length, None, IfOk, OnOk};
+ghost use Rattle.std.specs.Prelude.{◌≡◌, ◌≤◌, ◌++◌, ◌∷◌, [], length, None, IfOk, IfErr, OnOk};
 ghost use Rattle.std.specs.Io.KnownBytes.{Appends};
 ghost use Rattle.dump_load.specs.Changes.{IsNormal};
 ghost use Rattle.dump_load.specs.Faults.{fault};
 ghost use Rattle.node_base.specs.Tree.{IsDirAt, base};
 ghost use Rattle.ra_edit.specs.Commands.{edit_bytes};
 ghost use Rattle.ra_item.specs.Items.{spell};
-ghost use Rattle.ra_update.specs.Sent.{calls_told, end_item};
+ghost use Rattle.ra_update.specs.Sent.{calls_told, end_item, IsUnsent};
+ghost use Rattle.delta_editor.specs.declared.fault.EditorFault.TheVariants.{PeerFailed};
 
 use crate::editor::UpdateEditor;
 use crate::facts::Facts;
@@ -33,6 +34,7 @@ pub fn send_changes<W: Write + Drop>(
     ensures written { IfOk result (λ w. Appends (W.contents out) (W.contents w)
         (edit_bytes (calls_told facts.now trees.now changes.now))) }
     ensures faultless { OnOk result (fault trees.now changes.now ≡ None) }
+    ensures refused { IfErr result (IsUnsent trees.now changes.now) }
 {
     // For the proof: the calls of a drive keep the nesting, and go down.
     editor_ends::law::drive_is_nested();
@@ -49,7 +51,8 @@ pub fn send_changes<W: Write + Drop>(
 
 /// Writes the end.
 pub fn ended<W: Write + Drop>(out: W) -> Result<W, EditorFault>
-    ensures { IfOk result (λ w. Appends (W.contents out) (W.contents w) (spell end_item)) }
+    ensures written { IfOk result (λ w. Appends (W.contents out) (W.contents w) (spell end_item)) }
+    ensures refused { IfErr result (λ e. e ≡ PeerFailed) }
 {
     let mut out = out;
     match write_end(&mut out) {

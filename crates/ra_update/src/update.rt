@@ -1,13 +1,13 @@
 //! The edit that makes one tree of another.
 
-ghost use Rattle.std.specs.Prelude.{◌≡◌, ◌++◌, ◌∷◌, [], None, IfOk, OnOk};
+ghost use Rattle.std.specs.Prelude.{◌≡◌, ◌++◌, ◌∷◌, [], None, IfOk, IfErr, OnOk};
 ghost use Rattle.std.specs.Io.KnownBytes.{Appends};
 ghost use Rattle.dump_load.specs.Changes.{IsNormal};
 ghost use Rattle.dump_load.specs.Faults.{fault};
 ghost use Rattle.ra_edit.specs.Commands.{edit_bytes};
 ghost use Rattle.ra_item.specs.Items.{spell};
-ghost use Rattle.ra_update.specs.Sent.{calls_told, end_item};
-ghost use Rattle.ra_update.specs.Updates.{IsUpdate};
+ghost use Rattle.ra_update.specs.Sent.{calls_told, end_item, IsUnsent};
+ghost use Rattle.ra_update.specs.Updates.{IsUpdate, MayStop};
 
 use crate::facts::Facts;
 use crate::send::{ended, send_changes};
@@ -19,9 +19,9 @@ use std::alloc::{AllocError, Global};
 use std::io::Write;
 use tree_changes::changes_between;
 
-/// Writes behind what the writer has the edit that makes the tree that is wanted of the one that was reported: a target,
-/// the calls that the changes are driven as, each with what a client wants to know beside it, and the end. What differs
-/// in the nodes' numbers alone isn't told.
+/// Writes behind what the writer has the edit that makes the tree that is wanted of the one that was reported: a
+/// target, the calls that the changes are driven as, each with what a client wants to know beside it, and the end. What
+/// differs in the nodes' numbers alone isn't told.
 ///
 /// Refused: for want of memory (70), with `PeerFailed` (49) where the writer failed, and with the first fault of the
 /// changes over the tree that was reported. The writer is let go of then.
@@ -32,7 +32,8 @@ pub fn send_update<W: Write + Drop>(
     facts: &Facts<'_>,
     out: W,
 ) -> Result<W, EditorFault>
-    ensures { IfOk result (IsUpdate W.contents reported.now wanted.now facts.now out) }
+    ensures sent { IfOk result (IsUpdate W.contents reported.now wanted.now facts.now out) }
+    ensures refused { IfErr result (MayStop reported.now wanted.now) }
 {
     // For the proof: where changes have no fault, the calls that they are driven as have their effect.
     editor_ends::law::drive_has_the_effect();
@@ -52,6 +53,7 @@ fn send_over<W: Write + Drop>(
     ensures written { IfOk result (λ w. Appends (W.contents out) (W.contents w)
         (edit_bytes (calls_told facts.now (reported.now ∷ []) changes.now) ++ spell end_item)) }
     ensures faultless { OnOk result (fault (reported.now ∷ []) changes.now ≡ None) }
+    ensures refused { IfErr result (IsUnsent (reported.now ∷ []) changes.now) }
 {
     let trees = alone(alloc, reported)?;
     // For the proof: the root of a tree is a directory.

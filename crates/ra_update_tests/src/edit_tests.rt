@@ -1,12 +1,13 @@
 //! Edits of an update, beside those of Subversion's `svnserve` of version 1.14.2.
 
-use crate::edits::{BACK, FORWARD, FRESH, ONE_FORWARD, SAME};
+use crate::edits::{BACK, FILES, FORWARD, FRESH, ONE_FORWARD, SAME, SWITCH};
 use node_base::{NodePath, PropName, PropValue, Props, RevNo, Text};
 use path_tree::Tree;
 use ra_update::{Facts, send_update};
 use std::alloc::Global;
 use std::process::Abort;
 use std::rt::HostRuntime;
+use tree_reports::subtree;
 
 // What revisions did, path by path: the revision, a letter for what it did, the path, a text, and a property's name and
 // value. A directory comes by `d`, a file by `f`, properties by `p`, a text by `t`; what `r` names goes.
@@ -120,6 +121,50 @@ fn is_edit(rt: &impl Abort, alloc: Global, from: u16, base: u16, to: u16, expect
     out.as_slice() == expected
 }
 
+// A folder of a revision's tree as a tree of its own.
+fn folder_at(rt: &impl Abort, alloc: Global, number: u16, folder: &[u8]) -> Tree {
+    let tree = tree_at(rt, alloc, number);
+    let folder = NodePath::parse(alloc, folder).expect(rt, "a path");
+    match tree.get(folder.names()) {
+        Some(node) => {
+            if node.text.is_some() {
+                rt.abort();
+            }
+        }
+        None => rt.abort(),
+    }
+    subtree(alloc, &tree, &folder).expect(rt, "memory")
+}
+
+// Whether what makes a tree of another, of which one path isn't wanted, is this edit to revision 3.
+fn is_edit_to(
+    rt: &impl Abort,
+    alloc: Global,
+    reported: &Tree,
+    base: u16,
+    target: &Tree,
+    unwanted: &[u8],
+    expected: &[u8],
+) -> bool {
+    let mut wanted = target.share().expect(rt, "memory");
+    if unwanted.len() > 0 {
+        let path = NodePath::parse(alloc, unwanted).expect(rt, "a path");
+        wanted
+            .remove(alloc, &path, RevNo::ZERO)
+            .expect(rt, "a path");
+    }
+    let revisions = revisions(rt, alloc);
+    let facts = Facts {
+        target,
+        number: RevNo::new(3),
+        base: Some(RevNo::new(base)),
+        identity: b"6a1f0c3e-0000-4000-8000-0000000000a1",
+        revisions: revisions.as_slice(),
+    };
+    let out = send_update(alloc, reported, &wanted, &facts, Vec::new(alloc)).expect(rt, "memory");
+    out.as_slice() == expected
+}
+
 #[test]
 fn a_fresh_checkout_adds_all(rt: HostRuntime) {
     assert!(rt; is_edit(&rt, rt.alloc(), 0, 3, 3, FRESH));
@@ -131,4 +176,14 @@ fn an_update_goes_forward_and_back(rt: HostRuntime) {
     assert!(rt; is_edit(&rt, rt.alloc(), 1, 1, 3, FORWARD));
     assert!(rt; is_edit(&rt, rt.alloc(), 3, 3, 1, BACK));
     assert!(rt; is_edit(&rt, rt.alloc(), 1, 1, 2, ONE_FORWARD));
+}
+
+#[test]
+fn a_switch_and_a_checkout_of_files(rt: HostRuntime) {
+    let alloc = rt.alloc();
+    let trunk = folder_at(&rt, alloc, 3, b"trunk");
+    let tags = folder_at(&rt, alloc, 1, b"tags");
+    assert!(rt; is_edit_to(&rt, alloc, &tags, 1, &trunk, b"", SWITCH));
+    let empty = Tree::empty(alloc).expect(&rt, "memory");
+    assert!(rt; is_edit_to(&rt, alloc, &empty, 3, &trunk, b"new", FILES));
 }

@@ -1,4 +1,5 @@
-//! Edits that `svnserve` sent for updates, with tokens, texts and the order of entries as they are written here.
+//! Edits that `svnserve` sent for updates and a switch, with tokens, texts and the order of entries as they are written
+//! here.
 
 pub const FRESH: &[u8] =
     b"( target-rev ( 3 ) ) ( open-root ( ( 3 ) 2:t0 ) ) ( change-dir-prop ( 2:t0 \
@@ -127,4 +128,52 @@ pub const SAME: &[u8] =
     23:svn:entry:committed-rev ( 1:3 ) ) ) ( change-dir-prop ( 2:t0 24:svn:entry:committed-date ( \
     27:2020-01-01T00:50:00.023757Z ) ) ) ( change-dir-prop ( 2:t0 21:svn:entry:last-author ( 5:carol ) \
     ) ) ( change-dir-prop ( 2:t0 14:svn:entry:uuid ( 36:6a1f0c3e-0000-4000-8000-0000000000a1 ) ) ) ( \
+    close-dir ( 2:t0 ) ) ( close-edit ( ) ) ";
+
+pub const SWITCH: &[u8] =
+    b"( target-rev ( 3 ) ) ( open-root ( ( 1 ) 2:t0 ) ) ( change-dir-prop ( 2:t0 \
+    23:svn:entry:committed-rev ( 1:3 ) ) ) ( change-dir-prop ( 2:t0 24:svn:entry:committed-date ( \
+    27:2020-01-01T00:50:00.023757Z ) ) ) ( change-dir-prop ( 2:t0 21:svn:entry:last-author ( 5:carol ) \
+    ) ) ( change-dir-prop ( 2:t0 14:svn:entry:uuid ( 36:6a1f0c3e-0000-4000-8000-0000000000a1 ) ) ) ( \
+    add-file ( 6:README 2:t0 2:t1 ( ) ) ) ( change-file-prop ( 2:t1 23:svn:entry:committed-rev ( 1:2 ) \
+    ) ) ( change-file-prop ( 2:t1 24:svn:entry:committed-date ( 27:2020-01-01T00:33:20.015838Z ) ) ) ( \
+    change-file-prop ( 2:t1 21:svn:entry:last-author ( 3:bob ) ) ) ( change-file-prop ( 2:t1 \
+    14:svn:entry:uuid ( 36:6a1f0c3e-0000-4000-8000-0000000000a1 ) ) ) ( apply-textdelta ( 2:t1 ( ) ) ) \
+    ( textdelta-chunk ( 2:t1 4:SVN\0 ) ) ( textdelta-chunk ( 2:t1 18:\0\0\x0c\x01\x0c\x8chello again\n \
+    ) ) ( textdelta-end ( 2:t1 ) ) ( close-file ( 2:t1 ( 32:90f4dd73d11e55a3d19b4bd8e4ad1bdb ) ) ) ( \
+    add-file ( 3:lib 2:t0 2:t2 ( ) ) ) ( change-file-prop ( 2:t2 23:svn:entry:committed-rev ( 1:3 ) ) ) \
+    ( change-file-prop ( 2:t2 24:svn:entry:committed-date ( 27:2020-01-01T00:50:00.023757Z ) ) ) ( \
+    change-file-prop ( 2:t2 21:svn:entry:last-author ( 5:carol ) ) ) ( change-file-prop ( 2:t2 \
+    14:svn:entry:uuid ( 36:6a1f0c3e-0000-4000-8000-0000000000a1 ) ) ) ( apply-textdelta ( 2:t2 ( ) ) ) \
+    ( textdelta-chunk ( 2:t2 4:SVN\0 ) ) ( textdelta-chunk ( 2:t2 17:\0\0\x0b\x01\x0b\x8bnow a file\n ) \
+    ) ( textdelta-end ( 2:t2 ) ) ( close-file ( 2:t2 ( 32:b3eb1a8045bed57b2d54b64a1c10e265 ) ) ) ( \
+    add-dir ( 3:new 2:t0 2:t3 ( ) ) ) ( change-dir-prop ( 2:t3 23:svn:entry:committed-rev ( 1:3 ) ) ) ( \
+    change-dir-prop ( 2:t3 24:svn:entry:committed-date ( 27:2020-01-01T00:50:00.023757Z ) ) ) ( \
+    change-dir-prop ( 2:t3 21:svn:entry:last-author ( 5:carol ) ) ) ( change-dir-prop ( 2:t3 \
+    14:svn:entry:uuid ( 36:6a1f0c3e-0000-4000-8000-0000000000a1 ) ) ) ( change-dir-prop ( 2:t3 \
+    10:custom:new ( 3:yes ) ) ) ( add-file ( 5:new/f 2:t3 2:t4 ( ) ) ) ( change-file-prop ( 2:t4 \
+    23:svn:entry:committed-rev ( 1:3 ) ) ) ( change-file-prop ( 2:t4 24:svn:entry:committed-date ( \
+    27:2020-01-01T00:50:00.023757Z ) ) ) ( change-file-prop ( 2:t4 21:svn:entry:last-author ( 5:carol ) \
+    ) ) ( change-file-prop ( 2:t4 14:svn:entry:uuid ( 36:6a1f0c3e-0000-4000-8000-0000000000a1 ) ) ) ( \
+    apply-textdelta ( 2:t4 ( ) ) ) ( textdelta-chunk ( 2:t4 4:SVN\0 ) ) ( textdelta-end ( 2:t4 ) ) ( \
+    close-file ( 2:t4 ( 32:d41d8cd98f00b204e9800998ecf8427e ) ) ) ( close-dir ( 2:t3 ) ) ( close-dir ( \
+    2:t0 ) ) ( close-edit ( ) ) ";
+
+pub const FILES: &[u8] =
+    b"( target-rev ( 3 ) ) ( open-root ( ( 3 ) 2:t0 ) ) ( change-dir-prop ( 2:t0 \
+    23:svn:entry:committed-rev ( 1:3 ) ) ) ( change-dir-prop ( 2:t0 24:svn:entry:committed-date ( \
+    27:2020-01-01T00:50:00.023757Z ) ) ) ( change-dir-prop ( 2:t0 21:svn:entry:last-author ( 5:carol ) \
+    ) ) ( change-dir-prop ( 2:t0 14:svn:entry:uuid ( 36:6a1f0c3e-0000-4000-8000-0000000000a1 ) ) ) ( \
+    add-file ( 6:README 2:t0 2:t1 ( ) ) ) ( change-file-prop ( 2:t1 23:svn:entry:committed-rev ( 1:2 ) \
+    ) ) ( change-file-prop ( 2:t1 24:svn:entry:committed-date ( 27:2020-01-01T00:33:20.015838Z ) ) ) ( \
+    change-file-prop ( 2:t1 21:svn:entry:last-author ( 3:bob ) ) ) ( change-file-prop ( 2:t1 \
+    14:svn:entry:uuid ( 36:6a1f0c3e-0000-4000-8000-0000000000a1 ) ) ) ( apply-textdelta ( 2:t1 ( ) ) ) \
+    ( textdelta-chunk ( 2:t1 4:SVN\0 ) ) ( textdelta-chunk ( 2:t1 18:\0\0\x0c\x01\x0c\x8chello again\n \
+    ) ) ( textdelta-end ( 2:t1 ) ) ( close-file ( 2:t1 ( 32:90f4dd73d11e55a3d19b4bd8e4ad1bdb ) ) ) ( \
+    add-file ( 3:lib 2:t0 2:t2 ( ) ) ) ( change-file-prop ( 2:t2 23:svn:entry:committed-rev ( 1:3 ) ) ) \
+    ( change-file-prop ( 2:t2 24:svn:entry:committed-date ( 27:2020-01-01T00:50:00.023757Z ) ) ) ( \
+    change-file-prop ( 2:t2 21:svn:entry:last-author ( 5:carol ) ) ) ( change-file-prop ( 2:t2 \
+    14:svn:entry:uuid ( 36:6a1f0c3e-0000-4000-8000-0000000000a1 ) ) ) ( apply-textdelta ( 2:t2 ( ) ) ) \
+    ( textdelta-chunk ( 2:t2 4:SVN\0 ) ) ( textdelta-chunk ( 2:t2 17:\0\0\x0b\x01\x0b\x8bnow a file\n ) \
+    ) ( textdelta-end ( 2:t2 ) ) ( close-file ( 2:t2 ( 32:b3eb1a8045bed57b2d54b64a1c10e265 ) ) ) ( \
     close-dir ( 2:t0 ) ) ( close-edit ( ) ) ";

@@ -1,11 +1,12 @@
 use Rattle.std.proofs.Common.{◌∙◌, ℕ, List, Some, refl, ap}
+use Rattle.std.proofs.lemmas.Result.{err_from_is_err_and}
 use Rattle.std.specs.Option.{option_map}
 use Rattle.std.specs.Fmt.{decimal}
 use Rattle.delta_editor.specs.declared.call.Call.TheVariants as call
 use Rattle.ra_edit.specs.Wire.{Shows}
 use Rattle.ra_update.specs.Entries.{given, entry_props}
 use Rattle.ra_update.specs.Updated.{path_of_file}
-use Rattle.ra_update.proofs.Nested.{four_told, entries_are}
+use Rattle.ra_update.proofs.Nested.{four_told, entries_are, stopped_from}
 use Rattle.ra_update.proofs.editor.tell_file.Goals as goal
 
 pub returns-clause-shown : goal.returns-clause-shown
@@ -28,3 +29,17 @@ returns-clause-shown g c =
     names.of_number names.of_date names.of_author names.of_identity
     (ap (λ (t : List ℕ). Some t) (c.as_bytes-number.ensures.value ∙ c.format.ensures.text ∙ ap decimal c.get.ensures.number)) c.revision_prop.ensures c.revision_prop-2.ensures refl)
     c.in_ok-file_prop.ensures.shown c.in_ok-file_prop-2.ensures.shown c.in_ok-file_prop-3.ensures.shown c.file_prop-4.ensures.shown
+
+pub returns-in_err-file_prop-2-clause-refused : goal.returns-in_err-file_prop-2-clause-refused
+returns-in_err-file_prop-2-clause-refused g c =
+    let failed = err_from_is_err_and c.from_residual-in_err-file_prop-2.result c.from_residual-in_err-file_prop-2.ensures.1 in
+    rw (failed.1, failed.2) (λ calls. λ s. c.in_err-file_prop-2.ensures.refused _ (c.in_ok-file_prop.ensures.shown calls s))
+
+pub returns-in_err-file_prop-3-clause-refused : goal.returns-in_err-file_prop-3-clause-refused
+returns-in_err-file_prop-3-clause-refused g c =
+    let failed = err_from_is_err_and c.from_residual-in_err-file_prop-3.result c.from_residual-in_err-file_prop-3.ensures.1 in
+    rw (failed.1, failed.2) (λ calls. λ s. c.in_err-file_prop-3.ensures.refused _ (c.in_ok-file_prop-2.ensures.shown _ (c.in_ok-file_prop.ensures.shown calls s)))
+
+pub returns-clause-refused : goal.returns-clause-refused
+returns-clause-refused g c =
+    stopped_from g.W.Write.contents c.args.editor.now c.file_prop-3.new.self c.file_prop-4.result (λ calls. λ s. (_, c.in_ok-file_prop-3.ensures.shown _ (c.in_ok-file_prop-2.ensures.shown _ (c.in_ok-file_prop.ensures.shown calls s)))) c.file_prop-4.ensures.refused
