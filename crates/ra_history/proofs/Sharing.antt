@@ -1,21 +1,26 @@
 -- Sets that are shared one after another.
-use Rattle.std.proofs.Common.{◌≡◌, ℕ, suc, ◌≤◌, ◌<◌, ◌++◌, Bool, true, false, List, [], ◌∷◌, take, length, Some, None, Result, Ok, Err, true≢false, refl, sym, ap, ◌∙◌, arith}
+use Rattle.std.proofs.Common.{◌≡◌, ℕ, zero, suc, ◌≤◌, ◌<◌, ◌++◌, Bool, true, false, List, [], ◌∷◌, take, length, Some, None, Result, Ok, Err, true≢false, refl, sym, ap, subst, ◌∙◌, arith}
 use Rattle.std.proofs.Math.Seq.{take-suc}
+use Rattle.std.proofs.lemmas.List.{length-map}
 use Rattle.std.proofs.lemmas.Bool.Decides.{nat_tests}
 use Rattle.std.proofs.lemmas.Option.{slice_get-get_or}
 use Rattle.std.specs.Prelude.{nat_le, is_ok, is_err, if◌then◌else◌}
 use Rattle.std.specs.Option.{option_map_or}
+use Rattle.std.specs.FinMap as finite
 use Rattle.node_base.specs.declared.refusal.Refusal.TheVariants as refusal
 use Rattle.dump_load.specs.declared.change.Change.{Change}
 use Rattle.dump_load.specs.Faults.{fault_if}
-use Rattle.repo_core.specs.Repository.{Repository, IsRepository}
+use Rattle.node_base.specs.Props.{PropMap}
+use Rattle.node_base.specs.Tree.{PathMap}
+use Rattle.repo_core.specs.Repository.{Repository, Revision, IsRepository, trees_of, props_at}
 use Rattle.repo_core.proofs.SetsThere.{sets_count}
 use Rattle.ra_serve.specs.declared.fault.PortFault.{PortFault}
 use Rattle.ra_serve.specs.declared.fault.PortFault.TheVariants as fault
-use Rattle.ra_serve.specs.Ports.{MayRefuse, no_revision, set_of}
+use Rattle.ra_serve.specs.Ports.{MayRefuse, no_revision, set_of, tree_of}
 use Rattle.ra_serve.proofs.Causes.{rose_later}
 use Rattle.ra_history.specs.declared.stop.SetsStop.{SetsStop}
 use Rattle.ra_history.specs.declared.stop.SetsStop.TheVariants as stop
+use Rattle.ra_history.specs.Rows.{props_of}
 use Rattle.ra_history.specs.Stops.{MayStop}
 
 not_past : (b : Bool) → fault_if b refusal.NoSuchRevision ≡ None → b ≡ false
@@ -46,6 +51,31 @@ set_more x n s old new is d e p k =
     let count = sets_count x is in
     let h : n < length x.sets = grind (arith, nat_tests) in
     p ∙ ap (λ l. l ++ s ∷ []) k ∙ ap (λ t. take n x.sets ++ t ∷ []) (e ∙ ap (λ o. option_map_or (λ t. t) o []) (slice_get-get_or x.sets n [] h)) ∙ sym (take-suc x.sets n [] h)
+
+-- one more of a row
+row_more : {T : Type 0} (xs : List T) (n : ℕ) (d s : T) (old new : List T) → n < length xs → s ≡ option_map_or (λ t. t) (slice_get xs n) d → new ≡ old ++ s ∷ [] → old ≡ take n xs → new ≡ take (suc n) xs
+row_more xs n d s old new h e p k = p ∙ ap (λ l. l ++ s ∷ []) k ∙ ap (λ t. take n xs ++ t ∷ []) (e ∙ ap (λ o. option_map_or (λ t. t) o d) (slice_get-get_or xs n d h)) ∙ sym (take-suc xs n d h)
+
+within : (x : Repository) (n : ℕ) → no_revision x n ≡ None → n < length x.revisions
+within x n d = let b = not_past (nat_le (length x.revisions) n) d in grind (arith, nat_tests)
+
+props_row : (rs : List Revision) (n : ℕ) → props_at rs n ≡ option_map_or (λ t. t) (slice_get (props_of rs) n) finite.empty
+props_row [] n = refl
+props_row (r ∷ rs) zero = refl
+props_row (r ∷ rs) (suc n) = props_row rs n
+
+trees_row : (x : Repository) (rs : List Revision) (n : ℕ) → tree_of (record { identity = x.identity; revisions = rs; sets = x.sets }) n ≡ option_map_or (λ t. t) (slice_get (trees_of rs) n) finite.empty
+trees_row x [] n = refl
+trees_row x (r ∷ rs) zero = refl
+trees_row x (r ∷ rs) (suc n) = trees_row x rs n
+
+-- the properties of one revision more
+pub props_more : (x : Repository) (n : ℕ) (s : PropMap) (old new : List PropMap) → no_revision x n ≡ None → s ≡ props_at x.revisions n → new ≡ old ++ s ∷ [] → old ≡ take n (props_of x.revisions) → new ≡ take (suc n) (props_of x.revisions)
+props_more x n s old new d e p k = row_more (props_of x.revisions) n finite.empty s old new (subst (λ m. n < m) (sym (length-map x.revisions (λ y. y.props))) (within x n d)) (e ∙ props_row x.revisions n) p k
+
+-- and its tree
+pub tree_more : (x : Repository) (n : ℕ) (s : PathMap) (old new : List PathMap) → no_revision x n ≡ None → s ≡ tree_of x n → new ≡ old ++ s ∷ [] → old ≡ take n (trees_of x.revisions) → new ≡ take (suc n) (trees_of x.revisions)
+tree_more x n s old new d e p k = row_more (trees_of x.revisions) n finite.empty s old new (subst (λ m. n < m) (sym (length-map x.revisions (λ y. y.tree))) (within x n d)) (e ∙ trees_row x x.revisions n) p k
 
 -- a revision that isn't there, and so none above it
 above : (x : Repository) (k last : ℕ) → k ≤ last → no_revision x k ≡ Some refusal.NoSuchRevision → no_revision x last ≡ Some refusal.NoSuchRevision

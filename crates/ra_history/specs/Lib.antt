@@ -1,3 +1,4 @@
 pub mod Stops
+pub mod Rows
 pub mod Logs
 pub mod Locations

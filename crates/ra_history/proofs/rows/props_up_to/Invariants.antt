@@ -1,0 +1,12 @@
+use Rattle.std.proofs.Common.{◌≡◌, ◌≤◌, take, Some}
+use Rattle.repo_core.specs.Repository.{Repository}
+use Rattle.ra_history.specs.Rows.{props_of}
+use Rattle.ra_history.specs.Stops.{PortStays}
+use Rattle.ra_history.proofs.rows.props_up_to.Given as goal
+
+abbrev pub invariant-loop-number : goal.invariant-loop-number
+invariant-loop-number g l =
+    (l.number ≤ l.fn.last)
+    × (l.number-end ≡ l.fn.last)
+    × ((x : Repository) → g.P.RepoPort.repository l.fn.port ≡ Some x → l.row.items ≡ take l.number (props_of x.revisions))
+    × PortStays g.P.RepoPort.repository g.P.RepoPort.refusals g.P.RepoPort.is_mirror l.fn.port l.port

@@ -1,0 +1,11 @@
+use Rattle.std.proofs.Common.{◌≡◌, ◌≤◌, take, Some}
+use Rattle.repo_core.specs.Repository.{Repository, trees_of}
+use Rattle.ra_history.specs.Stops.{PortStays}
+use Rattle.ra_history.proofs.rows.trees_up_to.Given as goal
+
+abbrev pub invariant-loop-number : goal.invariant-loop-number
+invariant-loop-number g l =
+    (l.number ≤ l.fn.last)
+    × (l.number-end ≡ l.fn.last)
+    × ((x : Repository) → g.P.RepoPort.repository l.fn.port ≡ Some x → l.row.items ≡ take l.number (trees_of x.revisions))
+    × PortStays g.P.RepoPort.repository g.P.RepoPort.refusals g.P.RepoPort.is_mirror l.fn.port l.port

@@ -1,0 +1,79 @@
+//! The entries of a log.
+
+ghost use Rattle.std.specs.Prelude.{◌≡◌, slice_get, OnOk};
+ghost use Rattle.std.specs.Io.KnownBytes.{Appends};
+ghost use Rattle.ra_item.specs.Items.{spell};
+ghost use Rattle.ra_log.specs.Entries.{log_as, entry_item, entry_bytes, entries_told};
+
+use crate::change::write_changes;
+use crate::revprops::write_props;
+use crate::rows::LogRows;
+use browse_wire::ask::LogOrder;
+use dump_load::ChangeSet;
+use node_base::{Props, RevNo};
+use path_tree::Tree;
+use ra_item::writer::{write_close, write_number, write_open};
+use ra_serve::ServeFault;
+use std::alloc::Global;
+use std::io::Write;
+
+// The entry of a revision.
+fn write_entry<W: Write>(
+    alloc: Global,
+    out: &mut W,
+    order: &LogOrder,
+    trees: &[Tree],
+    number: RevNo,
+    set: &ChangeSet,
+    props: &Props,
+) -> Result<(), ServeFault>
+    ensures { OnOk result (Appends (W.contents out.old) (W.contents out.new)
+        (spell (entry_item (log_as order.now) trees.now number set.now props.now))) }
+{
+    write_open(out)?;
+    write_changes(alloc, out, order.changed_paths, trees, number, set)?;
+    write_number(out, u64::from(number.get()))?;
+    write_props(out, &order.revprops, props)?;
+    write_close(out)?;
+    Ok(())
+}
+
+// The entry of the revision of a number, where it is there.
+fn write_numbered<W: Write>(
+    alloc: Global,
+    out: &mut W,
+    order: &LogOrder,
+    rows: &LogRows,
+    number: u16,
+) -> Result<(), ServeFault>
+    ensures { OnOk result (Appends (W.contents out.old) (W.contents out.new)
+        (entry_bytes (log_as order.now) rows.now.trees.items number (slice_get rows.now.sets.items number)
+        (slice_get rows.now.props.items number))) }
+{
+    let number = RevNo::new(number);
+    let Some(set) = rows.sets.as_slice().get(number.index()) else {
+        return Ok(());
+    };
+    let Some(props) = rows.props.as_slice().get(number.index()) else {
+        return Ok(());
+    };
+    write_entry(alloc, out, order, rows.trees.as_slice(), number, set, props)
+}
+
+/// The entries of the revisions of these numbers, in their order; a revision that isn't there has none. `WriteFailed`
+/// where the writer failed, `OutOfMemory` where a growth was refused; then some of the bytes may have been written.
+pub fn write_entries<W: Write>(
+    alloc: Global,
+    out: &mut W,
+    order: &LogOrder,
+    rows: &LogRows,
+    numbers: &[u16],
+) -> Result<(), ServeFault>
+    ensures { OnOk result (Appends (W.contents out.old) (W.contents out.new)
+        (entries_told (log_as order.now) rows.now.sets.items rows.now.props.items rows.now.trees.items numbers.now)) }
+{
+    for number in numbers {
+        write_numbered(alloc, out, order, rows, *number)?;
+    }
+    Ok(())
+}

@@ -1,0 +1,192 @@
+//! The properties of a revision that an entry tells.
+
+ghost use Rattle.std.specs.Prelude.{◌≡◌, ◌∷◌, [], false, map, length, codes, OnOk, if◌then◌else◌};
+ghost use Rattle.std.specs.List.{list_any};
+ghost use Rattle.std.specs.Option.{option_copied};
+ghost use Rattle.std.specs.Str.{bytes_eq};
+ghost use Rattle.std.specs.FinMap as finite;
+ghost use Rattle.std.specs.Io.KnownBytes.{Appends};
+ghost use Rattle.ra_item.specs.Items.{spell, spell_all, row, Word, Number};
+ghost use Rattle.ra_wire.specs.Commands.{truth_word};
+ghost use Rattle.ra_wire.specs.Replies.{list, string, property, properties};
+ghost use Rattle.browse_wire.specs.Asks.{revprops_as};
+ghost use Rattle.ra_log.specs.Entries.{is_usual, wants, value_told, is_other, others_of};
+
+use crate::pieces::{write_property, write_string, write_truth};
+use browse_wire::ask::RevpropsWanted;
+use node_base::{PropName, PropValue, Props};
+use ra_item::writer::{write_close, write_number, write_open};
+use std::io;
+use std::io::Write;
+
+// Whether a name is one of these.
+fn is_one_of(name: &[u8], names: &[Vec<u8>]) -> bool
+    ensures { result ≡ list_any (bytes_eq name.now) (map (λ t. t.items) names.now) }
+{
+    for one in names {
+        if name == one.as_slice() {
+            return true;
+        }
+    }
+    false
+}
+
+// Whether a property has a place of its own in an entry.
+fn is_usual(name: &[u8]) -> bool
+    ensures { result ≡ is_usual name.now }
+{
+    name == b"svn:author".as_slice()
+        || name == b"svn:date".as_slice()
+        || name == b"svn:log".as_slice()
+}
+
+// Whether a property is wanted.
+fn wants(wanted: &RevpropsWanted, name: &[u8]) -> bool
+    ensures { result ≡ wants (revprops_as wanted.now) name.now }
+{
+    match wanted {
+        RevpropsWanted::Usual => is_usual(name),
+        RevpropsWanted::Every => true,
+        RevpropsWanted::These(names) => is_one_of(name, names.as_slice()),
+    }
+}
+
+// The value of a property, where it is wanted.
+fn value_told<'a>(wanted: &RevpropsWanted, props: &'a Props, name: &[u8]) -> Option<&'a [u8]>
+    ensures { option_copied result ≡ value_told (revprops_as wanted.now) props.now name.now }
+{
+    if wants(wanted, name) {
+        return props.get(name);
+    }
+    None
+}
+
+// The value of a property that has a place of its own in an entry, where it is wanted.
+fn write_value<W: Write>(
+    out: &mut W,
+    wanted: &RevpropsWanted,
+    props: &Props,
+    name: &[u8],
+) -> io::Result<()>
+    ensures { OnOk result (Appends (W.contents out.old) (W.contents out.new)
+        (spell (string (value_told (revprops_as wanted.now) props.now name.now)))) }
+{
+    write_string(out, value_told(wanted, props, name))
+}
+
+// A revision's author, date and message.
+fn write_usual<W: Write>(out: &mut W, wanted: &RevpropsWanted, props: &Props) -> io::Result<()>
+    ensures { OnOk result (Appends (W.contents out.old) (W.contents out.new)
+        (spell_all (row (string (value_told (revprops_as wanted.now) props.now (codes "svn:author"))
+        ∷ string (value_told (revprops_as wanted.now) props.now (codes "svn:date"))
+        ∷ string (value_told (revprops_as wanted.now) props.now (codes "svn:log")) ∷ [])))) }
+{
+    write_value(out, wanted, props, b"svn:author")?;
+    write_value(out, wanted, props, b"svn:date")?;
+    write_value(out, wanted, props, b"svn:log")
+}
+
+// Whether a property is wanted that has no place of its own in an entry.
+fn is_other(wanted: &RevpropsWanted, name: &[u8]) -> bool
+    ensures { result ≡ is_other (revprops_as wanted.now) name.now }
+{
+    wants(wanted, name) && !is_usual(name)
+}
+
+// One or none.
+fn one_if(told: bool) -> usize
+    ensures { result ≡ (if told then 1 else 0) }
+{
+    if told { 1 } else { 0 }
+}
+
+// How many other properties are wanted.
+fn count_others(wanted: &RevpropsWanted, entries: &[(PropName, PropValue)]) -> usize
+    ensures { result ≡ length (others_of (revprops_as wanted.now) entries.now) }
+{
+    let mut count = 0;
+    for entry in entries {
+        count += one_if(is_other(wanted, entry.0.as_bytes()));
+    }
+    count
+}
+
+// A property, where it is wanted and has no place of its own in an entry.
+fn write_other<W: Write>(
+    out: &mut W,
+    wanted: &RevpropsWanted,
+    name: &[u8],
+    value: &[u8],
+) -> io::Result<()>
+    ensures { OnOk result (Appends (W.contents out.old) (W.contents out.new)
+        (spell_all (row (map property (others_of (revprops_as wanted.now) ((name.now, value.now) ∷ [])))))) }
+{
+    if is_other(wanted, name) {
+        return write_property(out, name, value);
+    }
+    Ok(())
+}
+
+// The others, one behind another.
+fn write_each<W: Write>(
+    out: &mut W,
+    wanted: &RevpropsWanted,
+    entries: &[(PropName, PropValue)],
+) -> io::Result<()>
+    ensures { OnOk result (Appends (W.contents out.old) (W.contents out.new)
+        (spell_all (row (map property (others_of (revprops_as wanted.now) entries.now))))) }
+{
+    for entry in entries {
+        write_other(out, wanted, entry.0.as_bytes(), entry.1.as_slice())?;
+    }
+    Ok(())
+}
+
+// How many others there are, and these.
+fn write_listed<W: Write>(
+    out: &mut W,
+    wanted: &RevpropsWanted,
+    entries: &[(PropName, PropValue)],
+) -> io::Result<()>
+    ensures { OnOk result (Appends (W.contents out.old) (W.contents out.new)
+        (spell_all (row (Number (length (others_of (revprops_as wanted.now) entries.now))
+        ∷ properties (others_of (revprops_as wanted.now) entries.now) ∷ [])))) }
+{
+    write_number(out, count_others(wanted, entries) as u64)?;
+    write_open(out)?;
+    write_each(out, wanted, entries)?;
+    write_close(out)
+}
+
+// The flags behind an entry's message, and its other properties.
+fn write_flags<W: Write>(
+    out: &mut W,
+    wanted: &RevpropsWanted,
+    entries: &[(PropName, PropValue)],
+) -> io::Result<()>
+    ensures { OnOk result (Appends (W.contents out.old) (W.contents out.new)
+        (spell_all (row (Word (truth_word false) ∷ Word (truth_word false)
+        ∷ Number (length (others_of (revprops_as wanted.now) entries.now))
+        ∷ properties (others_of (revprops_as wanted.now) entries.now) ∷ Word (truth_word false) ∷ [])))) }
+{
+    write_truth(out, false)?;
+    write_truth(out, false)?;
+    write_listed(out, wanted, entries)?;
+    write_truth(out, false)
+}
+
+/// What an entry tells of a revision's properties: its author, its date and its message, three flags that are false,
+/// and between them how many other properties there are, and these; of each those that are wanted.
+pub fn write_props<W: Write>(out: &mut W, wanted: &RevpropsWanted, props: &Props) -> io::Result<()>
+    ensures { OnOk result (Appends (W.contents out.old) (W.contents out.new)
+        (spell_all (row (string (value_told (revprops_as wanted.now) props.now (codes "svn:author"))
+        ∷ string (value_told (revprops_as wanted.now) props.now (codes "svn:date"))
+        ∷ string (value_told (revprops_as wanted.now) props.now (codes "svn:log"))
+        ∷ Word (truth_word false) ∷ Word (truth_word false)
+        ∷ Number (length (others_of (revprops_as wanted.now) (finite.entries props.now)))
+        ∷ properties (others_of (revprops_as wanted.now) (finite.entries props.now))
+        ∷ Word (truth_word false) ∷ [])))) }
+{
+    write_usual(out, wanted, props)?;
+    write_flags(out, wanted, props.entries())
+}
