@@ -19,7 +19,7 @@ use Rattle.ra_wire.specs.Answers.{Dirent}
 use Rattle.ra_wire.specs.Commands as plain
 use Rattle.ra_wire.specs.Commands.{truth_word}
 use Rattle.ra_wire.specs.Replies.{list, success, string, properties, dirent, node_kind_word, number, proplist, value, kind_is, authorised, done}
-use Rattle.browse_wire.specs.Asks.{Ask, Plain, Stat, Locations, Reparent, GetLock, GetLocks}
+use Rattle.browse_wire.specs.Asks.{Ask, Plain, Stat, Log, LogAsk, Locations, Segments, FileRevs, Reparent, GetLock, GetLocks}
 use Rattle.browse_wire.specs.AskReading.{Reading}
 use Rattle.browse_wire.specs.Told.{no_locks}
 use Rattle.browse_wire.specs.Urls.{Url, url_read}
@@ -35,7 +35,7 @@ use Rattle.ra_browse.specs.declared.denial.Denial.{Denial}
 use Rattle.ra_browse.specs.declared.denial.Denial.TheVariants as denial
 use Rattle.path_history.specs.Places.{place}
 use Rattle.ra_browse.specs.Denials.{denied, unless_denied}
-use Rattle.ra_browse.specs.Histories.{Found, Nothing, FindsIf, is_looked_at, newest, listed, found_denied}
+use Rattle.ra_browse.specs.Histories.{Found, Nothing, FindsIf, FindsLogIf, is_looked_at, newest, newest_logged, range_logged, paths_below, places_logged, listed, found_denied}
 
 -- ---- looking
 
@@ -161,6 +161,17 @@ stood_denied x p n = first_of (no_revision x n ∷ place_denied p (node_in x n p
 abbrev pub locations_denied : Repository → Path → ℕ → List ℕ → Option Denial
 locations_denied x p peg ns = first_of (stood_denied x p peg ∷ no_revision x (newest peg ns) ∷ [])
 
+-- the first of some paths at which nothing stands
+abbrev pub paths_denied : PathMap → List Path → Option Denial
+paths_denied tree ps = first_of (map (λ p. place_denied p (finite.get tree p)) ps)
+
+-- a log of paths below a base, up to a revision
+abbrev pub logged_denied : Repository → ℕ → List Path → Option Denial
+logged_denied x n ps = first_of (no_revision x n ∷ paths_denied (tree_of x n) ps ∷ [])
+
+abbrev pub log_denied : Repository → Path → LogAsk → Option Denial
+log_denied x base l = logged_denied x (newest_logged x l) (paths_below base l.paths)
+
 -- ---- where the session stands
 
 -- the root of the client's URL, and the path below it; another URL of that root moves it
@@ -174,18 +185,25 @@ moved_to at (Ok to) = if bytes_eq to.0 at.0 then (at.0, to.1) else at
 
 -- ---- the table
 
--- the commands that are answered; the others are told as not supported
+-- the commands that are answered
 abbrev pub is_answered : Ask → Bool
 is_answered (Plain (plain.ChangeProp n name v old)) = false
 is_answered (Plain (plain.Replay n)) = false
 is_answered (Plain (plain.ReplayRange a b)) = false
 is_answered (Plain c) = true
 is_answered (Stat p n) = true
+is_answered (Log l) = true
 is_answered (Locations p peg ns) = true
 is_answered (Reparent url) = true
 is_answered (GetLock p) = true
 is_answered (GetLocks p d) = true
 is_answered c = false
+
+-- what the others are told: not supported, but for those that a client does by logs where a server doesn't know them
+abbrev pub unanswered : Ask → Denial
+unanswered (Segments p peg start end) = denial.Unknown
+unanswered (FileRevs p start end merged) = denial.Unknown
+unanswered c = denial.Unsupported
 
 -- what is denied of a command where the session stands
 abbrev pub browse_due : Repository → Url → Ask → Option Denial
@@ -195,9 +213,10 @@ browse_due x at (Plain (plain.GetDir p n props contents)) = first_of (no_revisio
 browse_due x at (Plain (plain.RevProplist n)) = no_revision x n
 browse_due x at (Plain (plain.RevProp n name)) = no_revision x n
 browse_due x at (Stat p n) = no_revision x (asked x n)
+browse_due x at (Log l) = log_denied x at.1 l
 browse_due x at (Locations p peg ns) = locations_denied x (at.1 ++ p) peg ns
 browse_due x at (Reparent url) = url_denied at (url_read url)
-browse_due x at c = fault_if (not (is_answered c)) denial.Unsupported
+browse_due x at c = fault_if (not (is_answered c)) (unanswered c)
 
 -- what it is told where nothing is, behind what was found of histories
 abbrev pub browse_content : Repository → Url → Ask → List ℕ
@@ -208,6 +227,7 @@ browse_content x at (Plain (plain.GetDir p n props contents)) = dir_bytes (asked
 browse_content x at (Plain (plain.RevProplist n)) = spell (proplist (props_at x.revisions n))
 browse_content x at (Plain (plain.RevProp n name)) = spell (value (finite.get (props_at x.revisions n) name))
 browse_content x at (Stat p n) = spell (stat_told (node_in x (asked x n) (at.1 ++ p)) (made_for x (node_in x (asked x n) (at.1 ++ p))))
+browse_content x at (Log l) = spell done
 browse_content x at (Locations p peg ns) = spell done
 browse_content x at (Reparent url) = spell done
 browse_content x at (GetLock p) = spell no_locks
@@ -237,7 +257,7 @@ verdict x at c found None = unless_denied (found_denied found) (reply x at c)
 verdict x at c found (Some f) = refused (refusal_of f)
 
 abbrev pub told : Repository → Url → Ask → Found → Option PortFault → List ℕ
-told x at c found h = listed c found ++ verdict x at c found h
+told x at c found h = listed x c found ++ verdict x at c found h
 
 -- ---- items
 
@@ -251,7 +271,7 @@ no_ask browse.OutOfMemory = denial.BadShape
 
 -- what an item is answered, a command or none
 abbrev pub answer : Repository → Url → Reading → Found → Option PortFault → List ℕ
-answer x at (Ok c) found h = if is_answered c then spell authorised ++ told x at c found h else denied denial.Unsupported
+answer x at (Ok c) found h = if is_answered c then spell authorised ++ told x at c found h else denied (unanswered c)
 answer x at (Err f) found h = denied (no_ask f)
 
 abbrev pub behind : Url → Reading → Url
@@ -267,6 +287,7 @@ MayHalt (Err e) (Some f) = ⊥
 -- what is found is what the histories of the repository have, and nothing is for a command that asks for none
 abbrev pub MayFind : Repository → Url → Ask → Option PortFault → Found → Type 0
 MayFind x at (Locations p peg ns) h found = FindsIf (is_looked_at h (locations_denied x (at.1 ++ p) peg ns)) x.sets (place peg (at.1 ++ p)) ns found
+MayFind x at (Log l) h found = FindsLogIf (is_looked_at h (log_denied x at.1 l)) x.sets (range_logged x l) (places_logged x at.1 l) found
 MayFind x at c h found = found ≡ Nothing
 
 abbrev pub MayHave : Repository → Url → Reading → Option PortFault → Found → Type 0

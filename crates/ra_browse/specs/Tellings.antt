@@ -1,11 +1,11 @@
 -- What the calls that answer say of their port and their writer.
-use Rattle.std.specs.Prelude.{◌≡◌, ◌⊎◌, ℕ, suc, ◌++◌, take, Bool, List, Option, Some, None, Result, Ok, Err}
+use Rattle.std.specs.Prelude.{◌≡◌, ◌⊎◌, ℕ, suc, ◌++◌, take, Bool, List, [], Option, Some, None, Result, Ok, Err, if◌then◌else◌}
 use Rattle.std.specs.Io.KnownBytes.{Appends}
 use Rattle.fleet_disk.specs.Rules.{Rose}
 use Rattle.node_base.specs.Path.{Path}
 use Rattle.node_base.specs.Tree.{PathMap}
-use Rattle.repo_core.specs.Repository.{Repository}
-use Rattle.browse_wire.specs.Asks.{Ask}
+use Rattle.repo_core.specs.Repository.{Repository, trees_of}
+use Rattle.browse_wire.specs.Asks.{Ask, LogAsk}
 use Rattle.browse_wire.specs.AskReading.{Reading}
 use Rattle.browse_wire.specs.Urls.{Url}
 use Rattle.browse_wire.specs.declared.url.SessionUrl.{SessionUrl}
@@ -30,9 +30,14 @@ use Rattle.ra_item.specs.Items.{spell}
 use Rattle.ra_wire.specs.Replies.{done}
 use Rattle.browse_wire.specs.Told.{end_item}
 use Rattle.path_history.specs.declared.place.Place.{Place}
+use Rattle.ra_history.specs.Rows.{props_of}
+use Rattle.ra_history.specs.declared.range.LogRange.{LogRange}
+use Rattle.ra_log.specs.Entries.{entries_told}
+use Rattle.ra_log.specs.declared.rows.LogRows as declared_rows
 use Rattle.ra_browse.specs.declared.location.Sought as declared_sought
+use Rattle.ra_browse.specs.declared.log.LogSought as declared_log
 use Rattle.ra_browse.specs.Denials.{denied, unless_denied}
-use Rattle.ra_browse.specs.Histories.{Found, FindsPlaces, newest, places_told, places_of, found_denied}
+use Rattle.ra_browse.specs.Histories.{Found, FindsPlaces, FindsLog, newest, places_below, places_told, places_of, numbers_of, found_denied}
 use Rattle.ra_browse.specs.Answers.{Made, made_for, told, answer, MayHalt, MayFind, MayHave, IsCalm, entries_wanted, url_denied, moved_to}
 use Rattle.std.specs.Option.{option_map}
 use Rattle.std.specs.Prelude.{map}
@@ -121,6 +126,26 @@ pub record TellsFound (Is : Found → Type 0) (before now : Option (List ℕ)) :
 
 abbrev pub TellsLocations : declared_sought.Sought → Option (List ℕ) → Option (List ℕ) → Type 0
 TellsLocations s before now = TellsFound (FindsPlaces s.sets.items s.from s.numbers.items) before now
+
+-- ---- logs
+
+-- what a log looks at, up to a revision
+pub record AreRows (x : Repository) (last : ℕ) (wanted : Bool) (r : declared_rows.LogRows) : Type 0 where
+  pub sets : r.sets.items ≡ take (suc last) x.sets
+  pub props : r.props.items ≡ take (suc last) (props_of x.revisions)
+  pub trees : r.trees.items ≡ (if wanted then take (suc last) (trees_of x.revisions) else [])
+
+-- the places of which a log is told, its range, and what it looks at, up to a revision
+pub record IsLogSought (x : Repository) (last : ℕ) (base : Path) (l : LogAsk) (from_to : LogRange) (s : declared_log.LogSought) : Type 0 where
+  pub places : s.places.items ≡ places_below last base l
+  pub range : s.range ≡ from_to
+  pub rows : AreRows x last l.changed_paths s.rows
+
+-- what was found of the revisions, and whether it may be told, is told behind their entries
+pub record TellsLogged (l : LogAsk) (s : declared_log.LogSought) (before now : Option (List ℕ)) : Type 0 where
+  pub found : Found
+  pub is : FindsLog s.rows.sets.items s.range s.places.items found
+  pub bytes : Appends before now ((entries_told l s.rows.sets.items s.rows.props.items s.rows.trees.items (numbers_of found) ++ spell end_item) ++ unless_denied (found_denied found) (spell done))
 
 -- ---- answers
 

@@ -13,7 +13,7 @@ ghost use Rattle.browse_wire.specs.Asks.{Plain, ask_as};
 ghost use Rattle.browse_wire.specs.AskReading.{ask_in};
 ghost use Rattle.browse_wire.specs.Told.{no_locks};
 ghost use Rattle.browse_wire.specs.Urls.{Url};
-ghost use Rattle.ra_browse.specs.Answers.{behind, is_answered, moved};
+ghost use Rattle.ra_browse.specs.Answers.{behind, is_answered, moved, unanswered};
 ghost use Rattle.ra_browse.specs.Tellings.{place_as, Answers, Tells, PortStays};
 
 use crate::ask::{props_asked, tree_asked};
@@ -21,6 +21,7 @@ use crate::denial::Denial;
 use crate::dir::get_dir;
 use crate::file::{Wanted, get_file};
 use crate::location::get_locations;
+use crate::log::get_log;
 use crate::look::joined;
 use crate::place::reparent;
 use crate::stat::stat;
@@ -80,7 +81,7 @@ fn command_answer<P: RepoPort, W: Write + Drop>(
     if is_answered(command) {
         return answered(alloc, port, place, command, out);
     }
-    deny(Denial::Unsupported, out)
+    deny(unanswered(command), out)
 }
 
 // Answers a command that is answered.
@@ -114,7 +115,19 @@ fn is_answered(command: &BrowseCommand) -> bool
         BrowseCommand::GetLock(_) => true,
         BrowseCommand::GetLocks(..) => true,
         BrowseCommand::GetLocations(..) => true,
+        BrowseCommand::Log(_) => true,
         _ => false,
+    }
+}
+
+// What a command is told that isn't answered. A client does by logs what a server doesn't know.
+fn unanswered(command: &BrowseCommand) -> Denial
+    ensures { result ≡ unanswered (ask_as command.now) }
+{
+    match command {
+        BrowseCommand::GetLocationSegments(..) => Denial::Unknown,
+        BrowseCommand::GetFileRevs(..) => Denial::Unknown,
+        _ => Denial::Unsupported,
     }
 }
 
@@ -158,12 +171,12 @@ fn reply<P: RepoPort, W: Write + Drop>(
         BrowseCommand::Reparent(url) => reparent(alloc, place, url.as_slice(), out),
         BrowseCommand::GetLock(_) => no_lock(out),
         BrowseCommand::GetLocks(..) => no_lock(out),
-        BrowseCommand::Log(_) => deny(Denial::Unsupported, out),
+        BrowseCommand::Log(order) => get_log(alloc, port, place, order, out),
         BrowseCommand::GetLocations(path, peg, numbers) => {
             get_locations(alloc, port, place, path, *peg, numbers.as_slice(), out)
         }
-        BrowseCommand::GetLocationSegments(..) => deny(Denial::Unsupported, out),
-        BrowseCommand::GetFileRevs(..) => deny(Denial::Unsupported, out),
+        BrowseCommand::GetLocationSegments(..) => deny(Denial::Unknown, out),
+        BrowseCommand::GetFileRevs(..) => deny(Denial::Unknown, out),
         BrowseCommand::Update(_) => deny(Denial::Unsupported, out),
         BrowseCommand::Switch(_) => deny(Denial::Unsupported, out),
         BrowseCommand::Status(_) => deny(Denial::Unsupported, out),

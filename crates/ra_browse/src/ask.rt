@@ -25,7 +25,7 @@ pub fn revision<P: RepoPort>(port: &P, number: u64) -> Result<RevNo, PortFault>
 }
 
 /// The revision that is asked for, the newest where none is named.
-fn asked<P: RepoPort>(port: &mut P, number: Option<u64>) -> Result<RevNo, PortFault>
+pub fn asked<P: RepoPort>(port: &mut P, number: Option<u64>) -> Result<RevNo, PortFault>
     ensures number { (x : Repository) → P.repository port.old ≡ Some x → IfOk result (λ n. n ≡ asked x number) }
     ensures refused { (x : Repository) → P.repository port.old ≡ Some x → IfErr result (λ f.
         MayRefuse (P.refusals port.old) (P.refusals port.new) f (no_revision x (asked x number))) }

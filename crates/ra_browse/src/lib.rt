@@ -20,6 +20,7 @@ mod dir;
 mod file;
 pub mod law;
 mod location;
+mod log;
 mod look;
 mod made;
 mod pieces;

@@ -117,8 +117,8 @@ fn stood<P: RepoPort>(
     }
 }
 
-// The same of a revision's tree.
-fn place_in(
+/// The place of a path behind another in a revision's tree, where something stands there.
+pub fn place_in(
     alloc: Global,
     tree: &Tree,
     revision: RevNo,
@@ -220,15 +220,15 @@ fn revisions<P: RepoPort>(
     Ok((told, last))
 }
 
-// The newer of two revisions.
-fn newer(one: RevNo, other: RevNo) -> RevNo
+/// The newer of two revisions.
+pub fn newer(one: RevNo, other: RevNo) -> RevNo
     ensures { result ≡ newer one other }
 {
     if one.get() < other.get() { other } else { one }
 }
 
-// The sets of the revisions from 0 up to one.
-fn shared<P: RepoPort>(alloc: Global, port: &mut P, last: RevNo) -> Result<Vec<ChangeSet>, Stop>
+/// The sets of the revisions from 0 up to one.
+pub fn shared<P: RepoPort>(alloc: Global, port: &mut P, last: RevNo) -> Result<Vec<ChangeSet>, Stop>
     ensures found { Finds P.repository P.refusals (λ x. no_revision x last)
         (λ x v. v.items ≡ take (suc last) x.sets) port.old port.new result }
     ensures stays { PortStays P.repository P.refusals P.is_mirror port.old port.new }

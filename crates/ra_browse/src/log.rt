@@ -1,0 +1,323 @@
+//! Which revisions changed some paths.
+
+ghost use Rattle.std.specs.Prelude.{◌≡◌, ◌++◌, suc, take, map, [], None, Some, IfOk, IfErr, if◌then◌else◌};
+ghost use Rattle.std.specs.Io.KnownBytes.{Appends};
+ghost use Rattle.repo_core.specs.Repository.{Repository, trees_of};
+ghost use Rattle.ra_item.specs.Items.{spell};
+ghost use Rattle.ra_wire.specs.Replies.{done};
+ghost use Rattle.browse_wire.specs.Asks.{Log};
+ghost use Rattle.browse_wire.specs.Told.{end_item};
+ghost use Rattle.path_history.specs.Places.{place};
+ghost use Rattle.ra_serve.specs.Answers.{asked};
+ghost use Rattle.ra_serve.specs.Ports as port;
+ghost use Rattle.ra_history.specs.Rows.{props_of};
+ghost use Rattle.ra_log.specs.Entries.{log_as, entries_told};
+ghost use Rattle.ra_browse.specs.Histories.{newer, newest_logged, range_of, range_logged, paths_below};
+ghost use Rattle.ra_browse.specs.Answers.{no_revision, paths_denied, logged_denied, log_denied};
+ghost use Rattle.ra_browse.specs.Tellings.{place_as, Comes, Decides, Finds, PortStays, Tells, AreRows, IsLogSought, TellsLogged};
+
+use crate::ask::asked;
+use crate::denial::Denial;
+use crate::location::{newer, place_in, shared};
+use crate::stop::{Stop, stopped};
+use crate::told::tell_behind_last;
+use browse_wire::ask::LogOrder;
+use browse_wire::told::write_last;
+use browse_wire::url::SessionUrl;
+use node_base::{NodePath, Props, RevNo};
+use path_history::{HistoryFault, Place, SetRow};
+use path_tree::Tree;
+use ra_history::{LogRange, SetsStop, props_up_to, revisions_told, trees_up_to};
+use ra_log::{LogRows, write_entries};
+use ra_serve::{PortFault, RepoPort, ServeFault};
+use ra_wire::reply_writer::write_done;
+use std::alloc::Global;
+use std::io::Write;
+
+/// The places of which a log is told, its range, and what it looks at.
+#[derive(Drop)]
+pub struct LogSought {
+    places: Vec<Place>,
+    range: LogRange,
+    rows: LogRows,
+}
+
+/// Answers `log`.
+pub fn get_log<P: RepoPort, W: Write + Drop>(
+    alloc: Global,
+    port: &mut P,
+    place: &SessionUrl,
+    order: &LogOrder,
+    out: W,
+) -> Result<W, ServeFault>
+    ensures told { IfOk result (Tells P.repository P.refusals W.contents (place_as place.now)
+        (Log (log_as order.now)) port.old port.new out) }
+    ensures stays { PortStays P.repository P.refusals P.is_mirror port.old port.new }
+{
+    match seek(alloc, port, &place.path, order) {
+        Ok(sought) => tell_sought(alloc, &sought, order, out),
+        Err(stop) => tell_behind_last(stop, out),
+    }
+}
+
+// What is looked for.
+fn seek<P: RepoPort>(
+    alloc: Global,
+    port: &mut P,
+    base: &NodePath,
+    order: &LogOrder,
+) -> Result<LogSought, Stop>
+    ensures found { Finds P.repository P.refusals (λ x. log_denied x base.now (log_as order.now))
+        (λ x s. IsLogSought x (newest_logged x (log_as order.now)) base.now (log_as order.now)
+        (range_logged x (log_as order.now)) s) port.old port.new result }
+    ensures stays { PortStays P.repository P.refusals P.is_mirror port.old port.new }
+{
+    match ends(port, order.start, order.end) {
+        Ok((first, last)) => seek_between(alloc, port, base, order, first, last),
+        Err(fault) => Err(stopped(fault)),
+    }
+}
+
+// The first and the last revision of a range.
+fn ends<P: RepoPort>(
+    port: &mut P,
+    start: Option<u64>,
+    end: Option<u64>,
+) -> Result<(RevNo, RevNo), PortFault>
+    ensures first { (x : Repository) → P.repository port.old ≡ Some x → IfOk result (λ r. r.0 ≡ asked x start) }
+    ensures last { (x : Repository) → P.repository port.old ≡ Some x → IfOk result (λ r. r.1 ≡ asked x end) }
+    ensures refused { (x : Repository) → P.repository port.old ≡ Some x
+        → IfErr result (λ f. port.MayRefuse (P.refusals port.old) (P.refusals port.new) f
+        (port.no_revision x (newer (asked x start) (asked x end)))) }
+    ensures stays { PortStays P.repository P.refusals P.is_mirror port.old port.new }
+{
+    let first = match asked(port, start) {
+        Ok(first) => first,
+        Err(fault) => return Err(fault),
+    };
+    match asked(port, end) {
+        Ok(last) => Ok((first, last)),
+        Err(fault) => Err(fault),
+    }
+}
+
+// What is looked for from one revision to another.
+fn seek_between<P: RepoPort>(
+    alloc: Global,
+    port: &mut P,
+    base: &NodePath,
+    order: &LogOrder,
+    first: RevNo,
+    last: RevNo,
+) -> Result<LogSought, Stop>
+    ensures found { Finds P.repository P.refusals
+        (λ x. logged_denied x (newer first last) (paths_below base.now order.now.paths.items))
+        (λ x s. IsLogSought x (newer first last) base.now (log_as order.now) (range_of first last (log_as order.now)) s)
+        port.old port.new result }
+    ensures stays { PortStays P.repository P.refusals P.is_mirror port.old port.new }
+{
+    let highest = newer(first, last);
+    match places_at(alloc, port, base, order.paths.as_slice(), highest) {
+        Ok(places) => {
+            let range = LogRange {
+                first,
+                last,
+                limit: order.limit,
+                crosses_copies: !order.strict,
+            };
+            with_rows(alloc, port, highest, order.changed_paths, range, places)
+        }
+        Err(stop) => Err(stop),
+    }
+}
+
+// The places of paths behind another in a revision, where something stands at each.
+fn places_at<P: RepoPort>(
+    alloc: Global,
+    port: &mut P,
+    base: &NodePath,
+    paths: &[NodePath],
+    number: RevNo,
+) -> Result<Vec<Place>, Stop>
+    ensures found { Finds P.repository P.refusals (λ x. logged_denied x number (paths_below base.now paths.now))
+        (λ x v. v.items ≡ map (place number) (paths_below base.now paths.now)) port.old port.new result }
+    ensures stays { PortStays P.repository P.refusals P.is_mirror port.old port.new }
+{
+    match port.tree(number) {
+        Ok(tree) => places_in(alloc, &tree, number, base, paths),
+        Err(fault) => Err(stopped(fault)),
+    }
+}
+
+// The same of the revision's tree. No path stands for the root.
+fn places_in(
+    alloc: Global,
+    tree: &Tree,
+    number: RevNo,
+    base: &NodePath,
+    paths: &[NodePath],
+) -> Result<Vec<Place>, Stop>
+    ensures { Decides (paths_denied tree.now (paths_below base.now paths.now))
+        (λ v. v.items ≡ map (place number) (paths_below base.now paths.now)) result }
+{
+    if paths.is_empty() {
+        let root = [NodePath::root(alloc)];
+        return each_in(alloc, tree, number, &root[0], &root);
+    }
+    each_in(alloc, tree, number, base, paths)
+}
+
+// The same of paths, one after another.
+fn each_in(
+    alloc: Global,
+    tree: &Tree,
+    number: RevNo,
+    base: &NodePath,
+    paths: &[NodePath],
+) -> Result<Vec<Place>, Stop>
+    ensures { Decides (paths_denied tree.now (map (λ q. base.now ++ q) paths.now))
+        (λ v. v.items ≡ map (place number) (map (λ q. base.now ++ q) paths.now)) result }
+{
+    let mut places = Vec::new(alloc);
+    for path in paths {
+        let next = match place_in(alloc, tree, number, base, path) {
+            Ok(next) => next,
+            Err(stop) => return Err(stop),
+        };
+        if places.push(next).is_err() {
+            return Err(Stop::OutOfMemory);
+        }
+    }
+    Ok(places)
+}
+
+// Places and a range, with what a log looks at up to a revision.
+fn with_rows<P: RepoPort>(
+    alloc: Global,
+    port: &mut P,
+    last: RevNo,
+    wanted: bool,
+    range: LogRange,
+    places: Vec<Place>,
+) -> Result<LogSought, Stop>
+    ensures found { Finds P.repository P.refusals (λ x. no_revision x last)
+        (λ x s. (s.places.items ≡ places.items) × (s.range ≡ range) × AreRows x last wanted s.rows)
+        port.old port.new result }
+    ensures stays { PortStays P.repository P.refusals P.is_mirror port.old port.new }
+{
+    match rows_at(alloc, port, last, wanted) {
+        Ok(rows) => Ok(LogSought {
+            places,
+            range,
+            rows,
+        }),
+        Err(stop) => Err(stop),
+    }
+}
+
+// What a log looks at, up to a revision.
+fn rows_at<P: RepoPort>(
+    alloc: Global,
+    port: &mut P,
+    last: RevNo,
+    wanted: bool,
+) -> Result<LogRows, Stop>
+    ensures found { Finds P.repository P.refusals (λ x. no_revision x last) (λ x r. AreRows x last wanted r)
+        port.old port.new result }
+    ensures stays { PortStays P.repository P.refusals P.is_mirror port.old port.new }
+{
+    let sets = match shared(alloc, port, last) {
+        Ok(sets) => sets,
+        Err(stop) => return Err(stop),
+    };
+    let props = match shared_props(alloc, port, last) {
+        Ok(props) => props,
+        Err(stop) => return Err(stop),
+    };
+    match shared_trees(alloc, port, last, wanted) {
+        Ok(trees) => Ok(LogRows { sets, props, trees }),
+        Err(stop) => Err(stop),
+    }
+}
+
+// The properties of the revisions from 0 up to one.
+fn shared_props<P: RepoPort>(alloc: Global, port: &mut P, last: RevNo) -> Result<Vec<Props>, Stop>
+    ensures found { Finds P.repository P.refusals (λ x. no_revision x last)
+        (λ x v. v.items ≡ take (suc last) (props_of x.revisions)) port.old port.new result }
+    ensures stays { PortStays P.repository P.refusals P.is_mirror port.old port.new }
+{
+    match props_up_to(alloc, port, last) {
+        Ok(props) => Ok(props),
+        Err(SetsStop::Port(fault)) => Err(stopped(fault)),
+        Err(SetsStop::OutOfMemory) => Err(Stop::OutOfMemory),
+    }
+}
+
+// Their trees.
+fn all_trees<P: RepoPort>(alloc: Global, port: &mut P, last: RevNo) -> Result<Vec<Tree>, Stop>
+    ensures found { Finds P.repository P.refusals (λ x. no_revision x last)
+        (λ x v. v.items ≡ take (suc last) (trees_of x.revisions)) port.old port.new result }
+    ensures stays { PortStays P.repository P.refusals P.is_mirror port.old port.new }
+{
+    match trees_up_to(alloc, port, last) {
+        Ok(trees) => Ok(trees),
+        Err(SetsStop::Port(fault)) => Err(stopped(fault)),
+        Err(SetsStop::OutOfMemory) => Err(Stop::OutOfMemory),
+    }
+}
+
+// The same where they are wanted, and none where they aren't, of a revision that is there.
+fn shared_trees<P: RepoPort>(
+    alloc: Global,
+    port: &mut P,
+    last: RevNo,
+    wanted: bool,
+) -> Result<Vec<Tree>, Stop>
+    ensures found { (x : Repository) → P.repository port.old ≡ Some x → no_revision x last ≡ None
+        → Comes (P.refusals port.old) (P.refusals port.new) None
+        (λ v. v.items ≡ (if wanted then take (suc last) (trees_of x.revisions) else [])) result }
+    ensures stays { PortStays P.repository P.refusals P.is_mirror port.old port.new }
+{
+    if wanted {
+        return all_trees(alloc, port, last);
+    }
+    Ok(Vec::new(alloc))
+}
+
+// Tells what is looked for.
+fn tell_sought<W: Write + Drop>(
+    alloc: Global,
+    sought: &LogSought,
+    order: &LogOrder,
+    out: W,
+) -> Result<W, ServeFault>
+    ensures { IfOk result (λ w. TellsLogged (log_as order.now) sought.now (W.contents out) (W.contents w)) }
+{
+    let sets = SetRow {
+        row: &sought.rows.sets,
+    };
+    match revisions_told(alloc, &sets, &sought.places, &sought.range) {
+        Ok(numbers) => tell_entries(alloc, order, &sought.rows, &numbers, out),
+        Err(HistoryFault::TooLong) => tell_behind_last(Stop::Denied(Denial::NoPath), out),
+        Err(HistoryFault::OutOfMemory) => Err(ServeFault::OutOfMemory),
+    }
+}
+
+// Tells the entries of these revisions, and that they are all.
+fn tell_entries<W: Write + Drop>(
+    alloc: Global,
+    order: &LogOrder,
+    rows: &LogRows,
+    numbers: &[u16],
+    out: W,
+) -> Result<W, ServeFault>
+    ensures { IfOk result (λ w. Appends (W.contents out) (W.contents w)
+        ((entries_told (log_as order.now) rows.now.sets.items rows.now.props.items rows.now.trees.items numbers.now
+        ++ spell end_item) ++ spell done)) }
+{
+    let mut out = out;
+    write_entries(alloc, &mut out, order, rows, numbers)?;
+    write_last(&mut out)?;
+    write_done(&mut out)?;
+    Ok(out)
+}
