@@ -31,12 +31,12 @@ use Rattle.ra_browse.specs.declared.stop.Stop.TheVariants as stop
 use Rattle.ra_browse.specs.declared.look.Seen.{Seen}
 use Rattle.ra_browse.specs.Denials.{denied, unless_denied}
 use Rattle.ra_browse.specs.Histories.{Nothing, listed}
-use Rattle.ra_browse.specs.Answers.{no_revision, made_for, stat_told, file_told, file_denied, dir_told, dir_denied, entries_wanted, is_answered, asks_port, browse_due, browse_content, reply, told, answer, no_ask, MayFind}
+use Rattle.ra_browse.specs.Answers.{no_revision, made_for, stat_told, file_told, file_denied, dir_told, dir_denied, entries_wanted, is_answered, unanswered, asks_port, browse_due, browse_content, reply, told, answer, no_ask, MayFind}
 use Rattle.ra_browse.specs.Tellings.{made_as, MayStop, TellsStop, IsSeen, AreEntries, Replied, Answered, Tells, Answers}
 
 -- a command that asks for no history
 abbrev pub IsPlain : Repository → Url → Ask → Type 0
-IsPlain x at c = ((h : Option PortFault) → MayFind x at c h Nothing) × (listed c Nothing ≡ [])
+IsPlain x at c = ((h : Option PortFault) → MayFind x at c h Nothing) × (listed x c Nothing ≡ [])
 
 -- what a command is told, where the port refused nothing by itself
 replied : (x : Repository) (at : Url) (c : Ask) (rose : Type 0) (before now : Option (List ℕ)) → IsPlain x at c → Appends before now (reply x at c) → Replied x at c rose before now
@@ -134,7 +134,7 @@ answered x at c rose before mid now k a r = record {
   has = r.has;
   lawful = r.lawful;
   counted = r.counted;
-  bytes = subst (λ b. Appends before now (if b then spell authorised ++ told x at c r.found r.halt else denied denial.Unsupported)) (sym k) (Appends-trans before mid now (spell authorised) (told x at c r.found r.halt) a r.bytes);
+  bytes = subst (λ b. Appends before now (if b then spell authorised ++ told x at c r.found r.halt else denied (unanswered c))) (sym k) (Appends-trans before mid now (spell authorised) (told x at c r.found r.halt) a r.bytes);
 }
 
 pub answers_command : {P W : Type 0} (repository : P → Option Repository) (refusals : P → ℕ) (contents : W → Option (List ℕ)) (at : Url) (c : Ask) (old new : P) (out mid : W) (result : Result W ServeFault)
@@ -149,7 +149,7 @@ answers_command repository refusals contents at c old new out mid (Ok w) k a t =
 asks_none : (x : Repository) (at : Url) (c : Ask) → is_answered c ≡ false → MayFind x at c None Nothing
 asks_none x at (Plain c) k = refl
 asks_none x at (Stat p n) k = refl
-asks_none x at (Log l) k = refl
+asks_none x at (Log l) k = absurd (true≢false k)
 asks_none x at (Locations p peg ns) k = absurd (true≢false k)
 asks_none x at (Segments p peg start end) k = refl
 asks_none x at (FileRevs p start end merged) k = refl
@@ -161,18 +161,19 @@ asks_none x at (Switch n p url d copies ignores) k = refl
 asks_none x at (Status n p d) k = refl
 asks_none x at (Diff n p url d ignores texts) k = refl
 
-pub answers_other : {P W : Type 0} (repository : P → Option Repository) (refusals : P → ℕ) (contents : W → Option (List ℕ)) (at : Url) (c : Ask) (old : P) (out : W) (result : Result W ServeFault)
+pub answers_other : {P W : Type 0} (repository : P → Option Repository) (refusals : P → ℕ) (contents : W → Option (List ℕ)) (at : Url) (c : Ask) (old : P) (out : W) (result : Result W ServeFault) (d : Denial)
     → is_answered c ≡ false
-    → IfOk result (λ w. Appends (contents out) (contents w) (denied denial.Unsupported))
+    → d ≡ unanswered c
+    → IfOk result (λ w. Appends (contents out) (contents w) (denied d))
     → IfOk result (Answers repository refusals contents at (Ok c) old old out)
-answers_other repository refusals contents at c old out (Err g) k a = tt
-answers_other repository refusals contents at c old out (Ok w) k a = λ x e. record {
+answers_other repository refusals contents at c old out (Err g) d k e a = tt
+answers_other repository refusals contents at c old out (Ok w) d k e a = λ x r. record {
   halt = None;
   found = Nothing;
   has = asks_none x at c k;
   lawful = tt;
   counted = inl tt;
-  bytes = subst (λ b. Appends (contents out) (contents w) (if b then spell authorised ++ told x at c Nothing None else denied denial.Unsupported)) (sym k) a;
+  bytes = subst (λ b. Appends (contents out) (contents w) (if b then spell authorised ++ told x at c Nothing None else denied (unanswered c))) (sym k) (subst (λ t. Appends (contents out) (contents w) (denied t)) e a);
 }
 
 -- what an item is read as

@@ -18,19 +18,20 @@ use Rattle.ra_history.specs.Locations.{later, seen_from, IsLater, IsAt, AreLocat
 use Rattle.repo_core.specs.Repository.{Repository}
 use Rattle.node_base.specs.Path.{Path}
 use Rattle.ra_browse.specs.declared.location.Sought.{Sought}
-use Rattle.ra_browse.specs.Histories.{Found, Nothing, Stood, PastLimits, newer, newest, FindsPlaces}
+use Rattle.ra_browse.specs.Histories.{Found, Nothing, Stood, Logged, PastLimits, newer, newest, FindsPlaces}
+use Rattle.ra_log.proofs.Fronts.{get_front}
 use Rattle.ra_browse.specs.Tellings.{IsSought}
 
 -- ---- the newest of some revisions
 
-newer_left : (n m : ℕ) → n ≤ newer n m
+pub newer_left : (n m : ℕ) → n ≤ newer n m
 newer_left n m = at (nat_lt n m) refl
   where
     at : (b : Bool) → nat_lt n m ≡ b → n ≤ (if b then m else n)
     at true e = grind (arith, nat_tests)
     at false e = omega arith
 
-newer_right : (n m : ℕ) → m ≤ newer n m
+pub newer_right : (n m : ℕ) → m ≤ newer n m
 newer_right n m = at (nat_lt n m) refl
   where
     at : (b : Bool) → nat_lt n m ≡ b → m ≤ (if b then m else n)
@@ -82,31 +83,26 @@ newest_more peg ns i d n m last new h is e l w = w ∙ ap (λ k. newer k m) l �
 
 -- ---- lines
 
-get_front : {T : Type 0} (xs : List T) (k i : ℕ) → i < k → slice_get (take k xs) i ≡ slice_get xs i
-get_front xs zero i h = absurd (omega arith)
-get_front [] (suc k) i h = refl
-get_front (x ∷ xs) (suc k) zero h = refl
-get_front (x ∷ xs) (suc k) (suc i) h = get_front xs k i (omega arith)
+module _ (crosses : Bool) (sets : Sets) (k : ℕ) where
+  came_front : (a : Place) → a.revision < k → came_from crosses (take k sets) a ≡ came_from crosses sets a
+  came_front a h = ap (option_and_then (λ set. origin crosses set a)) (get_front sets k a.revision h)
+
+  pub line_whole : (a b : Place) → a.revision < k → Follows crosses (take k sets) a b → Follows crosses sets a b
+  line_whole _ _ h (here a) = here a
+  line_whole _ _ h (back a b c came rest) = back a b c (sym (came_front a h) ∙ came) (line_whole b c (omega (arith, h, came_before crosses (take k sets) a b came)) rest)
+
+  pub line_front : (a b : Place) → a.revision < k → Follows crosses sets a b → Follows crosses (take k sets) a b
+  line_front _ _ h (here a) = here a
+  line_front _ _ h (back a b c came rest) = back a b c (came_front a h ∙ came) (line_front b c (omega (arith, h, came_before crosses sets a b came)) rest)
 
 module _ (sets : Sets) (k : ℕ) where
-  came_front : (a : Place) → a.revision < k → came_from true (take k sets) a ≡ came_from true sets a
-  came_front a h = ap (option_and_then (λ set. origin true set a)) (get_front sets k a.revision h)
-
-  line_whole : (a b : Place) → a.revision < k → Follows true (take k sets) a b → Follows true sets a b
-  line_whole _ _ h (here a) = here a
-  line_whole _ _ h (back a b c came rest) = back a b c (sym (came_front a h) ∙ came) (line_whole b c (omega (arith, h, came_before true (take k sets) a b came)) rest)
-
-  line_front : (a b : Place) → a.revision < k → Follows true sets a b → Follows true (take k sets) a b
-  line_front _ _ h (here a) = here a
-  line_front _ _ h (back a b c came rest) = back a b c (came_front a h ∙ came) (line_front b c (omega (arith, h, came_before true sets a b came)) rest)
-
   place_whole : (a : Place) (n : ℕ) (o : Option Place) → a.revision < k → IsPlaceAt (take k sets) a n o → IsPlaceAt sets a n o
-  place_whole a n None h i = λ b f e. i b (line_front a b h f) e
-  place_whole a n (Some b) h i = (line_whole a b h i.0, i.1)
+  place_whole a n None h i = λ b f e. i b (line_front true sets k a b h f) e
+  place_whole a n (Some b) h i = (line_whole true sets k a b h i.0, i.1)
 
   later_whole : (a : Place) (n : ℕ) (o : Option Place) → n < k → IsLater (take k sets) a n o → IsLater sets a n o
-  later_whole a n None h i = λ f. i (line_front (later a n) a h f)
-  later_whole a n (Some b) h i = (i.0, line_whole (later a n) a h i.1)
+  later_whole a n None h i = λ f. i (line_front true sets k (later a n) a h f)
+  later_whole a n (Some b) h i = (i.0, line_whole true sets k (later a n) a h i.1)
 
   at_whole : (t : Bool) (a : Place) (n : ℕ) (o : Option Place) → a.revision < k → n < k → IsAt t (take k sets) a n o → IsAt t sets a n o
   at_whole true a n o h l i = later_whole a n o l i
@@ -132,12 +128,13 @@ module _ (sets : Sets) (k : ℕ) where
   long_whole a ns h l o = record {
     number = o.number;
     given = o.given;
-    long = record { at = o.long.at; follows = line_whole (seen_from a o.number) o.long.at (seen_small a o.number h (small ns o.number l o.given)) o.long.follows; long = o.long.long };
+    long = record { at = o.long.at; follows = line_whole true sets k (seen_from a o.number) o.long.at (seen_small a o.number h (small ns o.number l o.given)) o.long.follows; long = o.long.long };
   }
 
   found_whole : (a : Place) (ns : List ℕ) (found : Found) → a.revision < k → AllByRecursion (λ n. n < k) ns → FindsPlaces (take k sets) a ns found → FindsPlaces sets a ns found
   found_whole a ns Nothing h l i = i
   found_whole a ns (Stood places) h l i = places_whole a ns places h l i
+  found_whole a ns (Logged told) h l i = i
   found_whole a ns PastLimits h l i = long_whole a ns h l i
 
 all_below : (n : ℕ) (ms : List ℕ) → AllByRecursion (λ m. m ≤ n) ms → AllByRecursion (λ m. m < suc n) ms

@@ -10,3 +10,5 @@ pub mod Mades
 pub mod Handed
 pub mod Fronts
 pub mod Located
+pub mod Logged
+pub mod LogFronts

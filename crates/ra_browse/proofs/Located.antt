@@ -45,7 +45,7 @@ first_stops p m n d e (stop.Denied w) h k = ap (λ o. first_of (o ∷ e ∷ []))
 first_stops p m n d e (stop.Port f) h k = (k.0, rose_sooner p m n h k.1)
 first_stops p m n d e stop.OutOfMemory h k = tt
 
-only_second : (d e : Option Denial) → d ≡ None → first_of (d ∷ e ∷ []) ≡ e
+pub only_second : (d e : Option Denial) → d ≡ None → first_of (d ∷ e ∷ []) ≡ e
 only_second d None h = ap (λ o. first_of (o ∷ None ∷ [])) h
 only_second d (Some w) h = ap (λ o. first_of (o ∷ Some w ∷ [])) h
 
@@ -73,7 +73,7 @@ comes_else k m d e Is Also (Ok a) h f c = (sym h ∙ c.0, f a c.1)
 comes_else k m d e Is Also (Err s) h f c = subst (λ o. MayStop k m o s) h c
 
 -- behind a call of which nothing is denied
-both_come : {A : Type 0} (p m n : ℕ) (d e : Option Denial) (Is : A → Type 0) (r : Result A Stop) → p ≤ m → d ≡ None → Comes m n e Is r → Comes p n (first_of (d ∷ e ∷ [])) Is r
+pub both_come : {A : Type 0} (p m n : ℕ) (d e : Option Denial) (Is : A → Type 0) (r : Result A Stop) → p ≤ m → d ≡ None → Comes m n e Is r → Comes p n (first_of (d ∷ e ∷ [])) Is r
 both_come p m n d e Is (Ok a) l h c = (both_calm d e h c.0, c.1)
 both_come p m n d e Is (Err s) l h c = second_stops p m n d e s l h c
 

@@ -9,7 +9,7 @@ ghost use Rattle.browse_wire.specs.Asks.{Log};
 ghost use Rattle.browse_wire.specs.Told.{end_item};
 ghost use Rattle.path_history.specs.Places.{place};
 ghost use Rattle.ra_serve.specs.Answers.{asked};
-ghost use Rattle.ra_serve.specs.Ports as port;
+ghost use Rattle.ra_serve.specs.Ports as ports;
 ghost use Rattle.ra_history.specs.Rows.{props_of};
 ghost use Rattle.ra_log.specs.Entries.{log_as, entries_told};
 ghost use Rattle.ra_browse.specs.Histories.{newer, newest_logged, range_of, range_logged, paths_below};
@@ -87,8 +87,8 @@ fn ends<P: RepoPort>(
     ensures first { (x : Repository) → P.repository port.old ≡ Some x → IfOk result (λ r. r.0 ≡ asked x start) }
     ensures last { (x : Repository) → P.repository port.old ≡ Some x → IfOk result (λ r. r.1 ≡ asked x end) }
     ensures refused { (x : Repository) → P.repository port.old ≡ Some x
-        → IfErr result (λ f. port.MayRefuse (P.refusals port.old) (P.refusals port.new) f
-        (port.no_revision x (newer (asked x start) (asked x end)))) }
+        → IfErr result (λ f. ports.MayRefuse (P.refusals port.old) (P.refusals port.new) f
+        (ports.no_revision x (newer (asked x start) (asked x end)))) }
     ensures stays { PortStays P.repository P.refusals P.is_mirror port.old port.new }
 {
     let first = match asked(port, start) {

@@ -84,7 +84,8 @@ above x k last h e =
     let t : nat_le (length x.revisions) last ≡ true = grind (arith, nat_tests) in
     ap (λ c. fault_if c refusal.NoSuchRevision) t
 
-refused_above : (x : Repository) (p m n k last : ℕ) (f : PortFault) → p ≤ m → k ≤ last → MayRefuse m n f (no_revision x k) → MayRefuse p n f (no_revision x last)
+-- a refusal of an earlier revision, behind others
+pub refused_above : (x : Repository) (p m n k last : ℕ) (f : PortFault) → p ≤ m → k ≤ last → MayRefuse m n f (no_revision x k) → MayRefuse p n f (no_revision x last)
 refused_above x p m n k last fault.DeviceFailed h l r = rose_later p m n h r
 refused_above x p m n k last fault.Failed h l r = rose_later p m n h r
 refused_above x p m n k last fault.LogFull h l r = rose_later p m n h r
