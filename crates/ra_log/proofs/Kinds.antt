@@ -1,5 +1,5 @@
 -- What stands past the limits of paths: nothing.
-use Rattle.std.proofs.Common.{◌≡◌, ℕ, ◌-◌, ◌++◌, Bool, true, false, List, take, drop, length, Option, Some, None, Result, Ok, Err, true≢false, refl, sym, ap, ◌∙◌}
+use Rattle.std.proofs.Common.{◌≡◌, ℕ, ◌-◌, ◌++◌, Bool, true, false, List, [], take, drop, length, Option, Some, None, Result, Ok, Err, true≢false, refl, sym, ap, ◌∙◌}
 use Rattle.std.proofs.lemmas.List.{take-append-drop}
 use Rattle.std.specs.Prelude.{IfOk, if◌then◌else◌}
 use Rattle.std.specs.Option.{option_map, option_and_then}
@@ -25,6 +25,9 @@ below_past trees r (Some a) h = kind_past trees (below r a) (fits_front a.path r
 -- the front of a path isn't past the limits
 pub front_within : (p : Path) (k : ℕ) → fits p ≡ true → fits (take k p) ≡ false → ⊥
 front_within p k f e = true≢false (sym f ∙ ap fits (sym (take-append-drop k p)) ∙ fits_front (take k p) (drop k p) e)
+
+pub no_long_front : (p names root front : Path) (k : ℕ) → fits p ≡ true → names ≡ p → root ≡ [] → front ≡ take k names → fits (root ++ front) ≡ false → ⊥
+no_long_front p names root front k f e r t h = front_within p k f (sym (ap fits (ap (λ q. q ++ front) r ∙ t ∙ ap (λ q. take k q) e)) ∙ h)
 
 -- a path in two parts
 pub kind_parts : (trees : List PathMap) (n : ℕ) (set : List Change) (p names front rest at : Path) (k : ℕ) → names ≡ p → k ≡ length names - 1 → front ≡ take k names → rest ≡ drop k names → at ≡ front → option_and_then (λ a. kind_at trees (below rest a)) (origin true set (place n at)) ≡ kind_before trees n set p

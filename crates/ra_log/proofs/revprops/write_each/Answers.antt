@@ -1,0 +1,15 @@
+use Rattle.std.proofs.Common.{◌∷◌, [], ◌∙◌, ap, sym, subst}
+use Rattle.std.proofs.lemmas.List.{take_all}
+use Rattle.std.specs.List.{flat_map}
+use Rattle.std.specs.Io.KnownBytes.{Appends}
+use Rattle.std.specs.Prelude.{List, ℕ}
+use Rattle.browse_wire.specs.Asks.{revprops_as}
+use Rattle.ra_log.proofs.Rows.{others_bytes, others_row}
+use Rattle.ra_log.proofs.revprops.write_each.Goals as goal
+
+pub returns : goal.returns
+returns g c =
+    let w = revprops_as c.args.wanted.now in
+    let all = take_all c.loop-entry.entry-index c.args.entries.now c.loop-entry-test.false in
+    subst (λ (l : List ℕ). Appends (g.W.Write.contents c.args.out.now) (g.W.Write.contents c.loop-entry.out) l)
+    (ap (flat_map (λ e. others_bytes w (e ∷ []))) all ∙ sym (others_row w c.args.entries.now)) c.loop-entry.invariant
