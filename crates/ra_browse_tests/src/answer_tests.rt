@@ -182,15 +182,19 @@ fn what_is_denied(rt: HostRuntime) {
 }
 
 // What these sessions don't answer, and what is told of it: svnserve has the first number too, since its clients fall back
-// by it.
-const UNANSWERED: [(&[u8], &[u8]); 5] = [
+// by it, to `log` from two commands that these sessions don't know.
+const UNANSWERED: [(&[u8], &[u8]); 6] = [
     (
         b"( nonsense ( ) ) ",
         b"( failure ( ( 210001 15:unknown command 0: 0 ) ) ) ",
     ),
     (
-        b"( log ( ( 0: ) ( 3 ) ( 0 ) false true 0 false revprops ( ) ) ) ",
-        b"( failure ( ( 200007 13:not supported 0: 0 ) ) ) ",
+        b"( get-location-segments ( 5:trunk ( 3 ) ( 3 ) ( 0 ) ) ) ",
+        b"( failure ( ( 210001 15:unknown command 0: 0 ) ) ) ",
+    ),
+    (
+        b"( get-file-revs ( 12:trunk/README ( 0 ) ( 3 ) false ) ) ",
+        b"( failure ( ( 210001 15:unknown command 0: 0 ) ) ) ",
     ),
     (
         b"( update ( ( 3 ) 0: true infinity false false ) ) ",

@@ -14,6 +14,8 @@ mod history_session_tests;
 #[cfg(test)]
 mod history_tests;
 #[cfg(test)]
+mod log_session_tests;
+#[cfg(test)]
 mod opening_tests;
 #[cfg(test)]
 mod place_tests;
