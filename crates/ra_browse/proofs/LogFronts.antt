@@ -1,9 +1,8 @@
 -- Logs by what stands up to some revision are those by all revisions.
 use Rattle.std.proofs.Common.{◌≡◌, ℕ, suc, ◌≤◌, ◌<◌, Bool, true, false, List, [], ◌∷◌, ◌++◌, map, take, length, refl, sym, ap, subst, ◌∙◌, arith}
 use Rattle.std.proofs.lemmas.Bool.Decides.{nat_tests}
-use Rattle.std.proofs.lemmas.List.Elements.{All-weaker, All-contains, All-contains_itself, All-take, All-from_recursion, recursion_from_All}
-use Rattle.std.proofs.lemmas.List.Sorted.{Contains-permutation, IsPermutation-sym, IsPermutation-reverse}
-use Rattle.std.specs.Prelude.{nat_lt, not, ◌==◌, reverse, if◌then◌else◌}
+use Rattle.std.proofs.lemmas.List.Elements.{All-weaker, All-contains, All-from_recursion, recursion_from_All}
+use Rattle.std.specs.Prelude.{nat_lt, if◌then◌else◌}
 use Rattle.std.specs.List.{All, AllByRecursion, Contains}
 use Rattle.std.specs.Option.{option_map_or}
 use Rattle.node_base.specs.Path.{Path}
@@ -15,7 +14,8 @@ use Rattle.path_history.specs.Histories.{IsAsked}
 use Rattle.path_history.specs.Logs.{IsLogged, HasLogged, IsLog, IsOneTooLong}
 use Rattle.path_history.proofs.Telling.{line_before}
 use Rattle.browse_wire.specs.Asks.{LogAsk}
-use Rattle.ra_history.specs.Logs.{IsTold, asked_of, directed, cut}
+use Rattle.ra_history.specs.Logs.{IsTold, asked_of}
+use Rattle.ra_history.proofs.Logs.{tells_no_other}
 use Rattle.ra_history.specs.Rows.{props_of}
 use Rattle.ra_history.specs.declared.range.LogRange.{LogRange}
 use Rattle.ra_log.proofs.Fronts.{get_front, entries_front}
@@ -79,23 +79,6 @@ module _ (sets : Sets) (k : ℕ) (r : LogRange) (places : List Place) where
 
 -- ---- the revisions of a log are none above its range
 
-all_reverse : (P : ℕ → Type 0) (ns : List ℕ) → All P ns → All P (reverse ns)
-all_reverse P ns h = All-weaker (Contains (reverse ns)) P (λ n c. All-contains P ns n h (Contains-permutation (reverse ns) ns n (IsPermutation-sym ns (reverse ns) (IsPermutation-reverse ns)) c)) (reverse ns) (All-contains_itself (reverse ns))
-
-all_directed : (P : ℕ → Type 0) (b : Bool) (ns : List ℕ) → All P ns → All P (if b then reverse ns else ns)
-all_directed P true ns h = all_reverse P ns h
-all_directed P false ns h = h
-
-all_cut : (P : ℕ → Type 0) (b : Bool) (limit : ℕ) (ns : List ℕ) → All P ns → All P (if b then ns else take limit ns)
-all_cut P true limit ns h = h
-all_cut P false limit ns h = All-take P limit ns h
-
-all_told : (sets : Sets) (r : LogRange) (places : List Place) (told : List ℕ) → IsTold sets r places told → All (λ n. n ≤ (asked_of r).highest) told
-all_told sets r places told i =
-    let P : ℕ → Type 0 = λ n. n ≤ (asked_of r).highest in
-    let h : All P i.0 = All-weaker (Contains i.0) P (λ n c. let j = i.1.has.each n c in subst P j.number j.asked.to) i.0 (All-contains_itself i.0) in
-    subst (All P) (sym i.2) (all_cut P (r.limit == 0) r.limit (directed r i.0) (all_directed P (nat_lt r.last r.first) i.0 h))
-
 highest_within : (first last : ℕ) → (if nat_lt last first then first else last) ≤ newer first last
 highest_within first last = at (nat_lt last first)
   where
@@ -103,10 +86,13 @@ highest_within first last = at (nat_lt last first)
     at true = newer_left first last
     at false = newer_right first last
 
+below : (first last n m : ℕ) → m ≡ n → m ≤ (if nat_lt last first then first else last) → n < suc (newer first last)
+below first last n m e h = let t = highest_within first last in omega (arith, e, h, t)
+
 told_below : (sets : Sets) (first last : ℕ) (l : LogAsk) (places : List Place) (told : List ℕ) → IsTold sets (range_of first last l) places told → AllByRecursion (λ n. n < suc (newer first last)) told
 told_below sets first last l places told i =
     recursion_from_All (λ n. n < suc (newer first last)) told
-    (All-weaker (λ n. n ≤ (asked_of (range_of first last l)).highest) (λ n. n < suc (newer first last)) (λ n h. omega (arith, h, highest_within first last)) told (all_told sets (range_of first last l) places told i))
+    (All-weaker (IsLogged sets (asked_of (range_of first last l)) places) (λ n. n < suc (newer first last)) (λ n j. below first last n j.at.revision j.number j.asked.to) told (tells_no_other sets (range_of first last l) places told i))
 
 found_below : (sets : Sets) (first last : ℕ) (l : LogAsk) (places : List Place) (found : Found) → FindsLog sets (range_of first last l) places found → AllByRecursion (λ n. n < suc (newer first last)) (numbers_of found)
 found_below sets first last l places Nothing f = tt
