@@ -2,7 +2,7 @@
 use Rattle.std.proofs.Common.{◌≡◌, ℕ, zero, suc, ◌≤◌, ◌<◌, ◌+◌, inl, inr, Bool, true, false, List, [], ◌∷◌, ◌++◌, map, take, length, get_or, Option, Some, None, Result, Ok, Err, refl, sym, ap, subst, ◌∙◌, arith}
 use Rattle.std.proofs.KnownBytes.{Appends-trans}
 use Rattle.std.proofs.lemmas.List.{take_more}
-use Rattle.std.specs.Prelude.{IfOk, is_none, if◌then◌else◌}
+use Rattle.std.specs.Prelude.{IfOk, is_none, ◌==◌, if◌then◌else◌}
 use Rattle.std.specs.FinMap as finite
 use Rattle.std.specs.Io.KnownBytes.{Appends}
 use Rattle.fleet_disk.specs.Rules.{Rose}
@@ -87,6 +87,19 @@ places_there items x ps n tree k m (Ok v) h t d =
 places_there items x ps n tree k m (Err s) h t d =
     second_stops k k m (no_revision x n) (paths_denied (tree_of x n) ps) s (omega arith) (is_there x n h)
     (denies_stops k m (paths_denied (tree_of x n) ps) s (subst (λ q. Denies (paths_denied q ps) s) t d))
+
+-- no paths stand for the root
+pub paths_none : (base : Path) (ps : List Path) → (length ps == 0) ≡ true → paths_below base ps ≡ [] ∷ []
+paths_none base [] h = refl
+paths_none base (p ∷ ps) h = absurd cc
+
+pub paths_some : (base : Path) (ps : List Path) → (length ps == 0) ≡ false → paths_below base ps ≡ map (λ q. base ++ q) ps
+paths_some base [] h = absurd cc
+paths_some base (p ∷ ps) h = refl
+
+-- what is denied of paths, and where they stand, as it is of the same paths
+pub decides_same : {V : Type 0} (items : V → List Place) (tree : PathMap) (n : ℕ) (ps qs : List Path) (r : Result V Stop) → ps ≡ qs → Decides (paths_denied tree ps) (λ v. items v ≡ map (place n) ps) r → Decides (paths_denied tree qs) (λ v. items v ≡ map (place n) qs) r
+decides_same items tree n ps qs r e d = subst (λ l. Decides (paths_denied tree l) (λ v. items v ≡ map (place n) l) r) e d
 
 -- what is denied of one path behind another, and of several
 module _ (tree : PathMap) (base : Path) where

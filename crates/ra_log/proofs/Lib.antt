@@ -1,3 +1,3 @@
 pub mod Kinds
-pub mod Rows
+pub mod Listed
 pub mod Fronts

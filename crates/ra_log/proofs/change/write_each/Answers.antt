@@ -5,7 +5,7 @@ use Rattle.std.specs.Io.KnownBytes.{Appends}
 use Rattle.std.specs.Prelude.{List, ℕ}
 use Rattle.ra_item.specs.Items.{spell}
 use Rattle.ra_log.specs.Entries.{change_item}
-use Rattle.ra_log.proofs.Rows.{changes_row}
+use Rattle.ra_log.proofs.Listed.{changes_row}
 use Rattle.ra_log.proofs.change.write_each.Goals as goal
 
 pub returns : goal.returns

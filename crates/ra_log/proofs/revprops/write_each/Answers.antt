@@ -4,7 +4,7 @@ use Rattle.std.specs.List.{flat_map}
 use Rattle.std.specs.Io.KnownBytes.{Appends}
 use Rattle.std.specs.Prelude.{List, ℕ}
 use Rattle.browse_wire.specs.Asks.{revprops_as}
-use Rattle.ra_log.proofs.Rows.{others_bytes, others_row}
+use Rattle.ra_log.proofs.Listed.{others_bytes, others_row}
 use Rattle.ra_log.proofs.revprops.write_each.Goals as goal
 
 pub returns : goal.returns

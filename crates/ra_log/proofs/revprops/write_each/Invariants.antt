@@ -2,7 +2,7 @@ use Rattle.std.proofs.Common.{◌∷◌, [], take}
 use Rattle.std.specs.List.{flat_map}
 use Rattle.std.specs.Io.KnownBytes.{Appends}
 use Rattle.browse_wire.specs.Asks.{revprops_as}
-use Rattle.ra_log.proofs.Rows.{others_bytes}
+use Rattle.ra_log.proofs.Listed.{others_bytes}
 use Rattle.ra_log.proofs.revprops.write_each.Given as goal
 
 abbrev pub invariant-loop-entry : goal.invariant-loop-entry
