@@ -104,7 +104,7 @@ found_below sets first last l places PastLimits f = tt
 
 places_at : (n : ℕ) (ps : List Path) → AllByRecursion (λ a. a.revision < suc n) (map (place n) ps)
 places_at n [] = tt
-places_at n (p ∷ ps) = (omega arith, places_at n ps)
+places_at n (p ∷ ps) = let h : n < suc n = omega arith in (h, places_at n ps)
 
 module _ (x : Repository) (first last : ℕ) (base : Path) (l : LogAsk) (s : LogSought) (i : IsLogSought x (newer first last) base l (range_of first last l) s) where
   -- what was found of it

@@ -1,6 +1,7 @@
 -- Exits of what tells a log.
-use Rattle.std.proofs.Common.{◌≡◌, ℕ, zero, suc, ◌≤◌, ◌<◌, ◌+◌, inl, inr, Bool, true, false, List, [], ◌∷◌, ◌++◌, map, take, length, get_or, Option, Some, None, Result, Ok, Err, refl, sym, ap, subst, ◌∙◌, arith}
+use Rattle.std.proofs.Common.{◌≡◌, ℕ, zero, suc, ◌≤◌, ◌<◌, ◌+◌, inl, inr, Bool, true, false, List, [], ◌∷◌, ◌++◌, map, take, length, get_or, Option, Some, None, Result, Ok, Err, true≢false, refl, sym, ap, subst, ◌∙◌, arith}
 use Rattle.std.proofs.KnownBytes.{Appends-trans}
+use Rattle.std.proofs.lemmas.Bool.Decides.{nat_tests}
 use Rattle.std.proofs.lemmas.List.{take_more}
 use Rattle.std.specs.Prelude.{IfOk, is_none, ◌==◌, if◌then◌else◌}
 use Rattle.std.specs.FinMap as finite
@@ -71,7 +72,7 @@ seek_comes x base l first last p m n r h e f c =
 pub between_comes : (x : Repository) (base : Path) (l : LogAsk) (range : LogRange) (top k p m n : ℕ) (places : List Place) (r : Result LogSought Stop) → p ≤ m → top ≡ k → logged_denied x top (paths_below base l.paths) ≡ None → places ≡ map (place top) (paths_below base l.paths) → Comes m n (no_revision x top) (λ s. (s.places.items ≡ places) × (s.range ≡ range) × AreRows x top l.changed_paths s.rows) r → Comes p n (logged_denied x k (paths_below base l.paths)) (IsLogSought x k base l range) r
 between_comes x base l range top k p m n places (Ok s) h e d q c =
     subst (λ t. Comes p n (logged_denied x t (paths_below base l.paths)) (IsLogSought x t base l range) (Ok s)) e
-    (d, record { places = c.1 ∙ q; range = c.2; rows = c.3 })
+    (d, record { places = c.1.0 ∙ q; range = c.1.1; rows = c.1.2 })
 between_comes x base l range top k p m n places (Err s) h e d q c =
     calm_stops p m n (no_revision x top) (logged_denied x k (paths_below base l.paths)) s h (first_calm (no_revision x top) (paths_denied (tree_of x top) (paths_below base l.paths)) d) c
 
@@ -91,7 +92,9 @@ places_there items x ps n tree k m (Err s) h t d =
 -- no paths stand for the root
 pub paths_none : (base : Path) (ps : List Path) → (length ps == 0) ≡ true → paths_below base ps ≡ [] ∷ []
 paths_none base [] h = refl
-paths_none base (p ∷ ps) h = absurd cc
+paths_none base (p ∷ ps) h =
+    let e : (length (p ∷ ps) == 0) ≡ false = grind (arith, nat_tests) in
+    absurd (true≢false (sym h ∙ e))
 
 pub paths_some : (base : Path) (ps : List Path) → (length ps == 0) ≡ false → paths_below base ps ≡ map (λ q. base ++ q) ps
 paths_some base [] h = absurd cc
@@ -102,35 +105,40 @@ pub decides_same : {V : Type 0} (items : V → List Place) (tree : PathMap) (n :
 decides_same items tree n ps qs r e d = subst (λ l. Decides (paths_denied tree l) (λ v. items v ≡ map (place n) l) r) e d
 
 -- what is denied of one path behind another, and of several
+abbrev pub denied_at : PathMap → Path → Path → Option Denial
+denied_at tree base q = place_denied (base ++ q) (finite.get tree (base ++ q))
+
+abbrev pub each_denied : PathMap → Path → List Path → List (Option Denial)
+each_denied tree base ps = map (λ p. place_denied p (finite.get tree p)) (map (λ q. base ++ q) ps)
+
+abbrev pub denied_of : PathMap → Path → List Path → Option Denial
+denied_of tree base ps = first_of (each_denied tree base ps)
+
 module _ (tree : PathMap) (base : Path) where
-  pub denied_at : Path → Option Denial
-  denied_at q = place_denied (base ++ q) (finite.get tree (base ++ q))
-
-  pub denied_of : List Path → Option Denial
-  denied_of ps = paths_denied tree (map (λ q. base ++ q) ps)
-
-  calm_behind : (ps : List Path) (q : Path) → denied_of ps ≡ None → denied_at q ≡ None → denied_of (ps ++ q ∷ []) ≡ None
+  calm_behind : (ps : List Path) (q : Path) → denied_of tree base ps ≡ None → denied_at tree base q ≡ None → denied_of tree base (ps ++ q ∷ []) ≡ None
   calm_behind [] q h k = ap (λ o. first_of (o ∷ [])) k
-  calm_behind (p ∷ ps) q h k = at (denied_at p) h
+  calm_behind (p ∷ ps) q h k = at (denied_at tree base p) h
     where
-      at : (o : Option Denial) → first_of (o ∷ map (λ p. place_denied p (finite.get tree p)) (map (λ q. base ++ q) ps)) ≡ None → first_of (o ∷ map (λ p. place_denied p (finite.get tree p)) (map (λ q. base ++ q) (ps ++ q ∷ []))) ≡ None
+      at : (o : Option Denial) → first_of (o ∷ each_denied tree base ps) ≡ None → first_of (o ∷ each_denied tree base (ps ++ q ∷ [])) ≡ None
       at None e = calm_behind ps q e k
       at (Some w) e = e
 
-  denied_next : (ps : List Path) (i : ℕ) (d : Path) (w : Denial) → i < length ps → denied_of (take i ps) ≡ None → denied_at (get_or ps i d) ≡ Some w → denied_of ps ≡ Some w
+  past_first : (o : Option Denial) (front whole : List (Option Denial)) (w : Denial) → first_of (o ∷ front) ≡ None → (first_of front ≡ None → first_of whole ≡ Some w) → first_of (o ∷ whole) ≡ Some w
+  past_first None front whole w e f = f e
+  past_first (Some v) front whole w e f = absurd (none_is_not v (sym e))
+
+  denied_next : (ps : List Path) (i : ℕ) (d : Path) (w : Denial) → i < length ps → denied_of tree base (take i ps) ≡ None → denied_at tree base (get_or ps i d) ≡ Some w → denied_of tree base ps ≡ Some w
   denied_next [] i d w h c e = absurd (omega arith)
-  denied_next (p ∷ ps) zero d w h c e = ap (λ o. first_of (o ∷ map (λ p. place_denied p (finite.get tree p)) (map (λ q. base ++ q) ps))) e
-  denied_next (p ∷ ps) (suc i) d w h c e = at (denied_at p) c
-    where
-      at : (o : Option Denial) → first_of (o ∷ map (λ p. place_denied p (finite.get tree p)) (map (λ q. base ++ q) (take i ps))) ≡ None → first_of (o ∷ map (λ p. place_denied p (finite.get tree p)) (map (λ q. base ++ q) ps)) ≡ Some w
-      at None k = denied_next ps i d w (omega arith) k e
-      at (Some v) k = absurd (none_is_not v (sym k))
+  denied_next (p ∷ ps) zero d w h c e = ap (λ o. first_of (o ∷ each_denied tree base ps)) e
+  denied_next (p ∷ ps) (suc i) d w h c e =
+      let j : i < length ps = omega arith in
+      past_first (denied_at tree base p) (each_denied tree base (take i ps)) (each_denied tree base ps) w c (λ k. denied_next ps i d w j k e)
 
-  pub calm_next : (ps : List Path) (i : ℕ) (q : Path) → i < length ps → q ≡ get_or ps i q → denied_of (take i ps) ≡ None → denied_at q ≡ None → denied_of (take (i + 1) ps) ≡ None
-  calm_next ps i q h is c k = subst (λ l. denied_of l ≡ None) (ap (λ r. take i ps ++ r ∷ []) is ∙ sym (take_more ps i q h)) (calm_behind (take i ps) q c k)
+  pub calm_next : (ps : List Path) (i : ℕ) (q : Path) → i < length ps → q ≡ get_or ps i q → denied_of tree base (take i ps) ≡ None → denied_at tree base q ≡ None → denied_of tree base (take (i + 1) ps) ≡ None
+  calm_next ps i q h is c k = subst (λ l. denied_of tree base l ≡ None) (ap (λ r. take i ps ++ r ∷ []) is ∙ sym (take_more ps i q h)) (calm_behind (take i ps) q c k)
 
-  pub next_denies : (ps : List Path) (i : ℕ) (q : Path) (s : Stop) → i < length ps → q ≡ get_or ps i q → denied_of (take i ps) ≡ None → Denies (denied_at q) s → Denies (denied_of ps) s
-  next_denies ps i q (stop.Denied w) h is c k = denied_next ps i q w h c (ap denied_at (sym is) ∙ k)
+  pub next_denies : (ps : List Path) (i : ℕ) (q : Path) (s : Stop) → i < length ps → q ≡ get_or ps i q → denied_of tree base (take i ps) ≡ None → Denies (denied_at tree base q) s → Denies (denied_of tree base ps) s
+  next_denies ps i q (stop.Denied w) h is c k = denied_next ps i q w h c (ap (denied_at tree base) (sym is) ∙ k)
   next_denies ps i q (stop.Port f) h is c k = k
   next_denies ps i q stop.OutOfMemory h is c k = tt
 

@@ -37,7 +37,7 @@ module _ (trees : List PathMap) (k : ℕ) where
 
   below_front : (n : ℕ) (r : Path) (o : Option Place) → n < k → IsBefore n o → option_and_then (λ a. kind_at (take k trees) (below r a)) o ≡ option_and_then (λ a. kind_at trees (below r a)) o
   below_front n r None h l = refl
-  below_front n r (Some a) h l = kind_at_front (below r a) (omega (arith, h, l))
+  below_front n r (Some a) h l = let j : a.revision < k = omega (arith, h, l) in kind_at_front (below r a) j
 
   found_front : (n : ℕ) (set : List Change) (c : Change) → n < k → kind_found (take k trees) n set c ≡ kind_found trees n set c
   found_front n set c h =

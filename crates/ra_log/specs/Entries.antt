@@ -74,8 +74,9 @@ entry_item l trees n set props = list (changes_item l.changed_paths trees n set 
 
 -- the entry of a revision; a revision that isn't there has none
 abbrev pub entry_bytes : LogAsk → List PathMap → ℕ → Option (List Change) → Option PropMap → List ℕ
+entry_bytes l trees n None props = []
+entry_bytes l trees n (Some set) None = []
 entry_bytes l trees n (Some set) (Some props) = spell (entry_item l trees n set props)
-entry_bytes l trees n set props = []
 
 -- the entries of these revisions, by the sets, the properties and the trees of all
 abbrev pub entries_told : LogAsk → List (List Change) → List PropMap → List PathMap → List ℕ → List ℕ
