@@ -21,7 +21,7 @@ use std::io::Write;
 
 // Whether a name is one of these.
 fn is_one_of(name: &[u8], names: &[Vec<u8>]) -> bool
-    ensures { result ≡ list_any (bytes_eq name.now) (map (λ t. t.items) names.now) }
+    ensures { result ≡ list_any (λ t. bytes_eq name.now t.items) names.now }
 {
     for one in names {
         if name == one.as_slice() {
