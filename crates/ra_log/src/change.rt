@@ -119,6 +119,24 @@ fn write_each<W: Write>(
     Ok(())
 }
 
+// The same in brackets.
+fn write_list<W: Write>(
+    alloc: Global,
+    out: &mut W,
+    trees: &[Tree],
+    number: RevNo,
+    set: &ChangeSet,
+    changes: &[Change],
+) -> Result<(), ServeFault>
+    ensures { OnOk result (Appends (W.contents out.old) (W.contents out.new)
+        (spell (list (map (change_item trees.now number set.now) changes.now)))) }
+{
+    write_open(out)?;
+    write_each(alloc, out, trees, number, set, changes)?;
+    write_close(out)?;
+    Ok(())
+}
+
 // All changes of a revision's set, in brackets.
 fn write_all<W: Write>(
     alloc: Global,
@@ -130,10 +148,7 @@ fn write_all<W: Write>(
     ensures { OnOk result (Appends (W.contents out.old) (W.contents out.new)
         (spell (list (changes_told trees.now number set.now)))) }
 {
-    write_open(out)?;
-    write_each(alloc, out, trees, number, set, set.changes())?;
-    write_close(out)?;
-    Ok(())
+    write_list(alloc, out, trees, number, set, set.changes())
 }
 
 // Brackets with nothing.

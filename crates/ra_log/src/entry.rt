@@ -1,6 +1,7 @@
 //! The entries of a log.
 
 ghost use Rattle.std.specs.Prelude.{◌≡◌, slice_get, OnOk};
+ghost use Rattle.std.specs.Option.{option_copied};
 ghost use Rattle.std.specs.Io.KnownBytes.{Appends};
 ghost use Rattle.ra_item.specs.Items.{spell};
 ghost use Rattle.ra_log.specs.Entries.{log_as, entry_item, entry_bytes, entries_told};
@@ -38,6 +39,28 @@ fn write_entry<W: Write>(
     Ok(())
 }
 
+// The same where the revision is there.
+fn write_found<W: Write>(
+    alloc: Global,
+    out: &mut W,
+    order: &LogOrder,
+    trees: &[Tree],
+    number: RevNo,
+    set: Option<&ChangeSet>,
+    props: Option<&Props>,
+) -> Result<(), ServeFault>
+    ensures { OnOk result (Appends (W.contents out.old) (W.contents out.new)
+        (entry_bytes (log_as order.now) trees.now number (option_copied set.entry) (option_copied props.entry))) }
+{
+    let Some(set) = set else {
+        return Ok(());
+    };
+    let Some(props) = props else {
+        return Ok(());
+    };
+    write_entry(alloc, out, order, trees, number, set, props)
+}
+
 // The entry of the revision of a number, where it is there.
 fn write_numbered<W: Write>(
     alloc: Global,
@@ -51,13 +74,8 @@ fn write_numbered<W: Write>(
         (slice_get rows.now.props.items number))) }
 {
     let number = RevNo::new(number);
-    let Some(set) = rows.sets.as_slice().get(number.index()) else {
-        return Ok(());
-    };
-    let Some(props) = rows.props.as_slice().get(number.index()) else {
-        return Ok(());
-    };
-    write_entry(alloc, out, order, rows.trees.as_slice(), number, set, props)
+    let trees = rows.trees.as_slice();
+    write_found(alloc, out, order, trees, number, rows.set(number), rows.props(number))
 }
 
 /// The entries of the revisions of these numbers, in their order; a revision that isn't there has none. `WriteFailed`

@@ -158,20 +158,26 @@ fn write_listed<W: Write>(
     write_close(out)
 }
 
+// The same of a revision's properties.
+fn write_others<W: Write>(out: &mut W, wanted: &RevpropsWanted, props: &Props) -> io::Result<()>
+    ensures { OnOk result (Appends (W.contents out.old) (W.contents out.new)
+        (spell_all (row (Number (length (others_of (revprops_as wanted.now) (finite.entries props.now)))
+        ∷ properties (others_of (revprops_as wanted.now) (finite.entries props.now)) ∷ [])))) }
+{
+    write_listed(out, wanted, props.entries())
+}
+
 // The flags behind an entry's message, and its other properties.
-fn write_flags<W: Write>(
-    out: &mut W,
-    wanted: &RevpropsWanted,
-    entries: &[(PropName, PropValue)],
-) -> io::Result<()>
+fn write_flags<W: Write>(out: &mut W, wanted: &RevpropsWanted, props: &Props) -> io::Result<()>
     ensures { OnOk result (Appends (W.contents out.old) (W.contents out.new)
         (spell_all (row (Word (truth_word false) ∷ Word (truth_word false)
-        ∷ Number (length (others_of (revprops_as wanted.now) entries.now))
-        ∷ properties (others_of (revprops_as wanted.now) entries.now) ∷ Word (truth_word false) ∷ [])))) }
+        ∷ Number (length (others_of (revprops_as wanted.now) (finite.entries props.now)))
+        ∷ properties (others_of (revprops_as wanted.now) (finite.entries props.now))
+        ∷ Word (truth_word false) ∷ [])))) }
 {
     write_truth(out, false)?;
     write_truth(out, false)?;
-    write_listed(out, wanted, entries)?;
+    write_others(out, wanted, props)?;
     write_truth(out, false)
 }
 
@@ -188,5 +194,5 @@ pub fn write_props<W: Write>(out: &mut W, wanted: &RevpropsWanted, props: &Props
         ∷ Word (truth_word false) ∷ [])))) }
 {
     write_usual(out, wanted, props)?;
-    write_flags(out, wanted, props.entries())
+    write_flags(out, wanted, props)
 }

@@ -1,7 +1,10 @@
 //! What a log looks at.
 
+ghost use Rattle.std.specs.Prelude.{◌≡◌, slice_get};
+ghost use Rattle.std.specs.Option.{option_copied};
+
 use dump_load::ChangeSet;
-use node_base::Props;
+use node_base::{Props, RevNo};
 use path_tree::Tree;
 
 /// What a log looks at, of the revisions from 0 on up to the newest of its range.
@@ -13,4 +16,20 @@ pub struct LogRows {
     pub props: Vec<Props>,
     /// The tree of each; they are asked for changed paths alone.
     pub trees: Vec<Tree>,
+}
+
+impl LogRows {
+    /// The set of a revision.
+    pub(crate) fn set(&self, number: RevNo) -> Option<&ChangeSet>
+        ensures { option_copied result ≡ slice_get self.now.sets.items number }
+    {
+        self.sets.as_slice().get(number.index())
+    }
+
+    /// Its properties.
+    pub(crate) fn props(&self, number: RevNo) -> Option<&Props>
+        ensures { option_copied result ≡ slice_get self.now.props.items number }
+    {
+        self.props.as_slice().get(number.index())
+    }
 }

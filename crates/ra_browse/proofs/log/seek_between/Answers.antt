@@ -7,7 +7,7 @@ use Rattle.ra_browse.proofs.log.seek_between.Goals as goal
 pub returns-in-Ok-clause-found : goal.returns-in-Ok-clause-found
 returns-in-Ok-clause-found g c = λ x e.
     let f = c.in-Ok.ensures.found x e in
-    between_comes x c.args.base.now (log_as c.args.order.now) _ c.newer.result _ _ _ _ c.in-Ok.places.items c.with_rows.result c.places_at.ensures.stays.goes.later c.newer.ensures f.0 f.1 (c.with_rows.ensures.found x (c.places_at.ensures.stays.repository ∙ e))
+    between_comes x c.args.base.now (log_as c.args.order.now) _ c.newer-highest.result _ _ _ _ c.in-Ok.places.items c.with_rows.result c.places_at.ensures.stays.goes.later c.newer-highest.ensures f.0 f.1 (c.with_rows.ensures.found x (c.places_at.ensures.stays.repository ∙ e))
 
 pub returns-in-Err-clause-found : goal.returns-in-Err-clause-found
-returns-in-Err-clause-found g c = λ x e. between_stops x (paths_below c.args.base.now c.args.order.now.paths.items) c.newer.result _ _ _ c.in-Err.stop c.newer.ensures (c.in-Err.ensures.found x e)
+returns-in-Err-clause-found g c = λ x e. between_stops x (paths_below c.args.base.now c.args.order.now.paths.items) c.newer-highest.result _ _ _ c.in-Err.stop c.newer-highest.ensures (c.in-Err.ensures.found x e)
