@@ -1,9 +1,10 @@
 -- Items one behind another.
-use Rattle.std.proofs.Common.{◌≡◌, ℕ, ◌≤◌, ◌<◌, ◌+◌, Bool, true, false, List, [], ◌∷◌, ◌++◌, map, length, take, get_or, refl, sym, ap, ◌∙◌, append-nil, arith}
-use Rattle.std.proofs.lemmas.List.Filters.{length-filter_more}
+use Rattle.std.proofs.Common.{◌≡◌, ℕ, ◌≤◌, ◌+◌, Bool, true, false, List, [], ◌∷◌, ◌++◌, map, length, drop, refl, sym, ap, ◌∙◌, append-nil, arith}
+use Rattle.std.proofs.lemmas.List.{drop_all}
 use Rattle.std.specs.Prelude.{◌||◌, if◌then◌else◌}
 use Rattle.std.specs.List.{filter, flat_map, list_any}
 use Rattle.std.specs.Str.{bytes_eq}
+use Rattle.node_base.specs.Entries.{passing}
 use Rattle.node_base.specs.Path.{Name}
 use Rattle.node_base.specs.Tree.{PathMap}
 use Rattle.dump_load.specs.declared.change.Change.{Change}
@@ -28,9 +29,20 @@ pub others_row : (w : Revprops) (es : List (Name × List ℕ)) → others_bytes 
 others_row w [] = refl
 others_row w (e ∷ es) = first_other w e es (is_other w e.0) ∙ ap (λ l. others_bytes w (e ∷ []) ++ l) (others_row w es)
 
--- one more is counted or not
-pub counted_more : (w : Revprops) (es : List (Name × List ℕ)) (i count new : ℕ) (d : Name × List ℕ) → i < length es → count ≡ length (others_of w (take i es)) → new ≡ count + (if is_other w (get_or es i d).0 then 1 else 0) → new ≡ length (others_of w (take (i + 1) es))
-counted_more w es i count new d h c e = e ∙ ap (λ n. n + (if is_other w (get_or es i d).0 then 1 else 0)) c ∙ sym (length-filter_more (λ e. is_other w e.0) es i d h)
+-- those that are counted
+passing_filter : (p : Name → Bool) (es : List (Name × List ℕ)) → passing p es ≡ length (filter (λ e. p e.0) es)
+passing_filter p [] = refl
+passing_filter p (e ∷ es) = at (p e.0) (passing_filter p es)
+  where
+    at : (b : Bool) → passing p es ≡ length (filter (λ d. p d.0) es) → (if b then 1 else 0) + passing p es ≡ length (if b then e ∷ filter (λ d. p d.0) es else filter (λ d. p d.0) es)
+    at true h = omega (arith, h)
+    at false h = omega (arith, h)
+
+pub counted : (p : Name → Bool) (es : List (Name × List ℕ)) (n i : ℕ) → length es ≤ i → n + passing p (drop i es) ≡ passing p es → n ≡ length (filter (λ e. p e.0) es)
+counted p es n i h so_far =
+    let d : passing p (drop i es) ≡ 0 = ap (passing p) (drop_all i es h) in
+    let f = passing_filter p es in
+    omega (arith, so_far, d, f)
 
 -- a name that is one of these, in code and here
 pub any_items : {V : Type 0} (name : List ℕ) (items : V → List ℕ) (vs : List V) → list_any (λ v. bytes_eq name (items v)) vs ≡ list_any (bytes_eq name) (map items vs)

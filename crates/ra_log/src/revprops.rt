@@ -1,6 +1,6 @@
 //! The properties of a revision that an entry tells.
 
-ghost use Rattle.std.specs.Prelude.{◌≡◌, ◌∷◌, [], false, map, length, codes, OnOk, if◌then◌else◌};
+ghost use Rattle.std.specs.Prelude.{◌≡◌, ◌∷◌, [], false, map, length, codes, OnOk};
 ghost use Rattle.std.specs.List.{list_any};
 ghost use Rattle.std.specs.Option.{option_copied};
 ghost use Rattle.std.specs.Str.{bytes_eq};
@@ -93,20 +93,15 @@ fn is_other(wanted: &RevpropsWanted, name: &[u8]) -> bool
     wants(wanted, name) && !is_usual(name)
 }
 
-// One or none.
-fn one_if(told: bool) -> usize
-    ensures { result ≡ (if told then 1 else 0) }
-{
-    if told { 1 } else { 0 }
-}
-
 // How many other properties are wanted.
 fn count_others(wanted: &RevpropsWanted, entries: &[(PropName, PropValue)]) -> usize
     ensures { result ≡ length (others_of (revprops_as wanted.now) entries.now) }
 {
     let mut count = 0;
-    for entry in entries {
-        count += one_if(is_other(wanted, entry.0.as_bytes()));
+    for (name, _) in entries {
+        if is_other(wanted, name.as_bytes()) {
+            count += 1;
+        }
     }
     count
 }
@@ -136,8 +131,8 @@ fn write_each<W: Write>(
     ensures { OnOk result (Appends (W.contents out.old) (W.contents out.new)
         (spell_all (row (map property (others_of (revprops_as wanted.now) entries.now))))) }
 {
-    for entry in entries {
-        write_other(out, wanted, entry.0.as_bytes(), entry.1.as_slice())?;
+    for (name, value) in entries {
+        write_other(out, wanted, name.as_bytes(), value.as_slice())?;
     }
     Ok(())
 }

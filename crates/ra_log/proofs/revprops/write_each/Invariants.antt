@@ -5,5 +5,5 @@ use Rattle.browse_wire.specs.Asks.{revprops_as}
 use Rattle.ra_log.proofs.Listed.{others_bytes}
 use Rattle.ra_log.proofs.revprops.write_each.Given as goal
 
-abbrev pub invariant-loop-entry : goal.invariant-loop-entry
-invariant-loop-entry g l = Appends (g.W.Write.contents l.fn.out) (g.W.Write.contents l.out) (flat_map (λ e. others_bytes (revprops_as l.wanted) (e ∷ [])) (take l.entry-index l.entries))
+abbrev pub invariant-loop-name : goal.invariant-loop-name
+invariant-loop-name g l = Appends (g.W.Write.contents l.fn.out) (g.W.Write.contents l.out) (flat_map (λ e. others_bytes (revprops_as l.wanted) (e ∷ [])) (take l.name-index l.entries))
