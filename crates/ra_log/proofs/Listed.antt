@@ -1,9 +1,11 @@
 -- Items one behind another.
-use Rattle.std.proofs.Common.{◌≡◌, ℕ, ◌≤◌, ◌+◌, Bool, true, false, List, [], ◌∷◌, ◌++◌, map, length, drop, refl, sym, ap, ◌∙◌, append-nil, arith}
-use Rattle.std.proofs.lemmas.List.{drop_all}
+use Rattle.std.proofs.Common.{◌≡◌, ℕ, ◌≤◌, ◌<◌, ◌+◌, Bool, true, false, List, [], ◌∷◌, ◌++◌, map, length, take, drop, get_or, Option, refl, sym, ap, subst, ◌∙◌, append-nil, arith}
+use Rattle.std.proofs.KnownBytes.{Appends-trans}
+use Rattle.std.proofs.lemmas.List.{drop_all, take_more, flat_map_more}
 use Rattle.std.specs.Prelude.{◌||◌, if◌then◌else◌}
 use Rattle.std.specs.List.{filter, flat_map, list_any}
 use Rattle.std.specs.Str.{bytes_eq}
+use Rattle.std.specs.Io.KnownBytes.{Appends}
 use Rattle.node_base.specs.Entries.{passing}
 use Rattle.node_base.specs.Path.{Name}
 use Rattle.node_base.specs.Tree.{PathMap}
@@ -28,6 +30,13 @@ first_other w e es false = refl
 pub others_row : (w : Revprops) (es : List (Name × List ℕ)) → others_bytes w es ≡ flat_map (λ e. others_bytes w (e ∷ [])) es
 others_row w [] = refl
 others_row w (e ∷ es) = first_other w e es (is_other w e.0) ∙ ap (λ l. others_bytes w (e ∷ []) ++ l) (others_row w es)
+
+-- one more is written
+pub others_next : (w : Revprops) (es : List (Name × List ℕ)) (i : ℕ) (a b c : Option (List ℕ)) (e : Name × List ℕ) → i < length es → e ≡ get_or es i e → Appends a b (flat_map (λ d. others_bytes w (d ∷ [])) (take i es)) → Appends b c (others_bytes w (e ∷ [])) → Appends a c (flat_map (λ d. others_bytes w (d ∷ [])) (take (i + 1) es))
+others_next w es i a b c e h is x y =
+    let F : Name × List ℕ → List ℕ = λ d. others_bytes w (d ∷ []) in
+    subst (Appends a c) (flat_map_more F [] (take i es) e ∙ ap (flat_map F) (ap (λ d. take i es ++ d ∷ []) is ∙ sym (take_more es i e h)))
+    (Appends-trans a b c (flat_map F (take i es)) (F e) x y)
 
 -- those that are counted
 passing_filter : (p : Name → Bool) (es : List (Name × List ℕ)) → passing p es ≡ length (filter (λ e. p e.0) es)
