@@ -8,7 +8,7 @@ ghost use Rattle.std.specs.FinMap as finite;
 ghost use Rattle.std.specs.Io.KnownBytes.{Appends};
 ghost use Rattle.ra_item.specs.Items.{spell, spell_all, row, Word, Number};
 ghost use Rattle.ra_wire.specs.Commands.{truth_word};
-ghost use Rattle.ra_wire.specs.Replies.{list, string, property, properties};
+ghost use Rattle.ra_wire.specs.Replies.{string, property, properties};
 ghost use Rattle.browse_wire.specs.Asks.{revprops_as};
 ghost use Rattle.ra_log.specs.Entries.{is_usual, wants, value_told, is_other, others_of};
 
