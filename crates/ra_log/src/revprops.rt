@@ -137,27 +137,39 @@ fn write_each<W: Write>(
     Ok(())
 }
 
-// How many others there are, and these.
+// How many of a revision's properties are others.
+fn count_of(wanted: &RevpropsWanted, props: &Props) -> usize
+    ensures { result ≡ length (others_of (revprops_as wanted.now) (finite.entries props.now)) }
+{
+    count_others(wanted, props.entries())
+}
+
+// The same as a number.
+fn write_count<W: Write>(out: &mut W, wanted: &RevpropsWanted, props: &Props) -> io::Result<()>
+    ensures { OnOk result (Appends (W.contents out.old) (W.contents out.new)
+        (spell (Number (length (others_of (revprops_as wanted.now) (finite.entries props.now)))))) }
+{
+    write_number(out, count_of(wanted, props) as u64)
+}
+
+// The others in brackets.
 fn write_listed<W: Write>(
     out: &mut W,
     wanted: &RevpropsWanted,
     entries: &[(PropName, PropValue)],
 ) -> io::Result<()>
     ensures { OnOk result (Appends (W.contents out.old) (W.contents out.new)
-        (spell_all (row (Number (length (others_of (revprops_as wanted.now) entries.now))
-        ∷ properties (others_of (revprops_as wanted.now) entries.now) ∷ [])))) }
+        (spell (properties (others_of (revprops_as wanted.now) entries.now)))) }
 {
-    write_number(out, count_others(wanted, entries) as u64)?;
     write_open(out)?;
     write_each(out, wanted, entries)?;
     write_close(out)
 }
 
-// The same of a revision's properties.
+// Those of a revision's properties.
 fn write_others<W: Write>(out: &mut W, wanted: &RevpropsWanted, props: &Props) -> io::Result<()>
     ensures { OnOk result (Appends (W.contents out.old) (W.contents out.new)
-        (spell_all (row (Number (length (others_of (revprops_as wanted.now) (finite.entries props.now)))
-        ∷ properties (others_of (revprops_as wanted.now) (finite.entries props.now)) ∷ [])))) }
+        (spell (properties (others_of (revprops_as wanted.now) (finite.entries props.now))))) }
 {
     write_listed(out, wanted, props.entries())
 }
@@ -172,6 +184,7 @@ fn write_flags<W: Write>(out: &mut W, wanted: &RevpropsWanted, props: &Props) ->
 {
     write_truth(out, false)?;
     write_truth(out, false)?;
+    write_count(out, wanted, props)?;
     write_others(out, wanted, props)?;
     write_truth(out, false)
 }

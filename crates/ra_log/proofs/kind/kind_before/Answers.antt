@@ -1,5 +1,5 @@
 use Rattle.std.proofs.Common.{◌≡◌, ◌-◌, ◌∙◌, ◌++◌, ap, length, arith}
-use Rattle.ra_log.proofs.Kinds.{kind_parts, no_long_front, ok_same}
+use Rattle.ra_log.proofs.Standing.{kind_parts, no_long_front, ok_same}
 use Rattle.ra_log.proofs.kind.kind_before.Goals as goal
 
 pub returns-in-Ok : goal.returns-in-Ok

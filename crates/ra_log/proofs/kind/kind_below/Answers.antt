@@ -1,7 +1,7 @@
 use Rattle.std.proofs.Common.{◌∙◌, ap}
 use Rattle.path_history.specs.Places.{place}
 use Rattle.ra_log.specs.Kinds.{below, kind_at}
-use Rattle.ra_log.proofs.Kinds.{kind_past}
+use Rattle.ra_log.proofs.Standing.{kind_past}
 use Rattle.ra_log.proofs.kind.kind_below.Goals as goal
 
 pub returns-in-Ok : goal.returns-in-Ok

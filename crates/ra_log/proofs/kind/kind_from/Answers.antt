@@ -1,6 +1,6 @@
 use Rattle.path_history.specs.Places.{origin}
 use Rattle.std.proofs.Common.{true}
-use Rattle.ra_log.proofs.Kinds.{below_past}
+use Rattle.ra_log.proofs.Standing.{below_past}
 use Rattle.ra_log.proofs.kind.kind_from.Goals as goal
 
 pub returns-in-Err-TooLong : goal.returns-in-Err-TooLong
