@@ -4,12 +4,8 @@ use Rattle.std.proofs.lemmas.List.Elements.{All-weaker, All-contains, All-contai
 use Rattle.std.proofs.lemmas.List.Sorted.{Contains-permutation, IsPermutation-sym, IsPermutation-reverse}
 use Rattle.std.specs.Prelude.{nat_lt, ◌==◌, reverse, if◌then◌else◌}
 use Rattle.std.specs.List.{All, Contains}
-use Rattle.path_history.specs.declared.place.Place.{Place}
-use Rattle.path_history.specs.Places.{Sets}
-use Rattle.path_history.specs.Histories.{IsAsked}
 use Rattle.path_history.specs.Logs.{IsLogged}
-use Rattle.ra_history.specs.declared.range.LogRange.{LogRange}
-use Rattle.ra_history.specs.Logs.{IsTold, asked_of, directed, cut}
+use Rattle.ra_history.specs.Logs.{asked_of, directed, cut}
 use Rattle.ra_history.specs.Laws.{TellsEach, TellsNoOther}
 
 -- ---- what holds of all holds of those that are told

@@ -59,11 +59,7 @@ pub fn props_up_to<P: RepoPort>(
 }
 
 // Puts the tree of a revision behind those of the revisions before it.
-fn push_tree<P: RepoPort>(
-    port: &mut P,
-    number: RevNo,
-    row: &mut Vec<Tree>,
-) -> Result<(), SetsStop>
+fn push_tree<P: RepoPort>(port: &mut P, number: RevNo, row: &mut Vec<Tree>) -> Result<(), SetsStop>
     ensures found { Finds P.repository P.refusals (λ x. no_revision x number)
         (λ x _. row.old.items ≡ take number (trees_of x.revisions)
         → row.new.items ≡ take (suc number) (trees_of x.revisions))

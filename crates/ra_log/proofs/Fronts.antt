@@ -1,7 +1,7 @@
 -- What is told of revisions by the rows up to some revision is what is told by all.
-use Rattle.std.proofs.Common.{◌≡◌, ℕ, zero, suc, ◌<◌, Bool, true, false, List, [], ◌∷◌, ◌++◌, map, take, length, Option, Some, None, refl, sym, ap, ◌∙◌, arith}
+use Rattle.std.proofs.Common.{◌≡◌, ℕ, zero, suc, ◌<◌, Bool, true, false, List, [], ◌∷◌, ◌++◌, map, take, length, Option, Some, None, refl, ap, ◌∙◌, arith}
 use Rattle.std.specs.Prelude.{slice_get, codes, unwrap_or, if◌then◌else◌}
-use Rattle.std.specs.List.{AllByRecursion, flat_map}
+use Rattle.std.specs.List.{AllByRecursion}
 use Rattle.std.specs.Option.{option_map, option_and_then}
 use Rattle.std.specs.FinMap as finite
 use Rattle.node_base.specs.Limits.{fits}
@@ -14,12 +14,12 @@ use Rattle.dump_load.specs.declared.change.Change.{Change}
 use Rattle.path_history.specs.declared.place.Place.{Place}
 use Rattle.path_history.specs.Places.{place, origin}
 use Rattle.path_history.proofs.Telling.{IsBefore, origin_before}
-use Rattle.ra_item.specs.Items.{Item, Word, Number, spell}
+use Rattle.ra_item.specs.Items.{Word, Number, spell}
 use Rattle.ra_wire.specs.Commands.{truth_word}
 use Rattle.ra_wire.specs.Replies.{list, string, properties}
 use Rattle.browse_wire.specs.Asks.{LogAsk}
 use Rattle.ra_log.specs.Kinds.{kind_at, kind_before, kind_found, folder, last_name, below}
-use Rattle.ra_log.specs.Entries.{change_with, change_item, changes_told, changes_item, value_told, others_of, entry_item, entry_bytes, entries_told}
+use Rattle.ra_log.specs.Entries.{change_with, change_item, changes_item, value_told, others_of, entry_bytes, entries_told}
 
 pub get_front : {T : Type 0} (xs : List T) (k i : ℕ) → i < k → slice_get (take k xs) i ≡ slice_get xs i
 get_front xs zero i h = absurd (omega arith)

@@ -1,12 +1,11 @@
 -- What stands past the limits of paths: nothing.
-use Rattle.std.proofs.Common.{◌≡◌, ℕ, ◌-◌, ◌++◌, Bool, true, false, List, [], take, drop, length, Option, Some, None, Result, Ok, Err, true≢false, refl, sym, ap, ◌∙◌}
+use Rattle.std.proofs.Common.{◌≡◌, ℕ, ◌-◌, ◌++◌, true, false, List, [], take, drop, length, Option, Some, None, Result, Ok, Err, true≢false, refl, sym, ap, ◌∙◌}
 use Rattle.std.proofs.lemmas.List.{take-append-drop}
 use Rattle.std.specs.Prelude.{IfOk, if◌then◌else◌}
 use Rattle.std.specs.Option.{option_map, option_and_then}
 use Rattle.node_base.specs.Limits.{fits}
 use Rattle.node_base.specs.Path.{Path}
 use Rattle.node_base.specs.Tree.{PathMap, kind_of}
-use Rattle.node_base.specs.declared.node.NodeKind.{NodeKind}
 use Rattle.dump_load.specs.declared.change.Change.{Change}
 use Rattle.path_history.specs.declared.place.Place.{Place}
 use Rattle.path_history.specs.Lines.{node_at}

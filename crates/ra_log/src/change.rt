@@ -81,7 +81,13 @@ fn write_parts<W: Write>(
 fn write_change<W: Write>(out: &mut W, kind: NodeKind, change: &Change) -> io::Result<()>
     ensures { OnOk result (Appends (W.contents out.old) (W.contents out.new) (spell (change_with kind change.now))) }
 {
-    write_parts(out, &change.path, &change.source, kind, changed_path(change))
+    write_parts(
+        out,
+        &change.path,
+        &change.source,
+        kind,
+        changed_path(change),
+    )
 }
 
 // The same of a change of a revision's set.

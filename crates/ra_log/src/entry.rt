@@ -75,7 +75,15 @@ fn write_numbered<W: Write>(
 {
     let number = RevNo::new(number);
     let trees = rows.trees.as_slice();
-    write_found(alloc, out, order, trees, number, rows.set(number), rows.props(number))
+    write_found(
+        alloc,
+        out,
+        order,
+        trees,
+        number,
+        rows.set(number),
+        rows.props(number),
+    )
 }
 
 /// The entries of the revisions of these numbers, in their order; a revision that isn't there has none. `WriteFailed`
