@@ -114,14 +114,24 @@ each_denied tree base ps = map (λ p. place_denied p (finite.get tree p)) (map (
 abbrev pub denied_of : PathMap → Path → List Path → Option Denial
 denied_of tree base ps = first_of (each_denied tree base ps)
 
+-- the root alone
+pub root_denies : (tree : PathMap) (r : Path) (s : Stop) → r ≡ [] → Denies (denied_at tree r r) s → Denies (paths_denied tree ([] ∷ [])) s
+root_denies tree r (stop.Denied w) e h = ap (λ o. first_of (o ∷ [])) (sym (ap (λ q. denied_at tree q q) e) ∙ h)
+root_denies tree r (stop.Port f) e h = h
+root_denies tree r stop.OutOfMemory e h = tt
+
+pub root_there : (tree : PathMap) (n : ℕ) (r : Path) (a : Place) (old new : List Place) → r ≡ [] → denied_at tree r r ≡ None → a ≡ place n (r ++ r) → old ≡ [] → new ≡ old ++ a ∷ [] → (paths_denied tree ([] ∷ []) ≡ None) × (new ≡ place n [] ∷ [])
+root_there tree n r a old new e d i o p =
+    (ap (λ q. first_of (q ∷ [])) (sym (ap (λ q. denied_at tree q q) e) ∙ d), p ∙ ap (λ l. l ++ a ∷ []) o ∙ ap (λ b. b ∷ []) (i ∙ ap (λ q. place n (q ++ q)) e))
+
 module _ (tree : PathMap) (base : Path) where
+  calm_step : (o : Option Denial) (front whole : List (Option Denial)) → first_of (o ∷ front) ≡ None → (first_of front ≡ None → first_of whole ≡ None) → first_of (o ∷ whole) ≡ None
+  calm_step None front whole e f = f e
+  calm_step (Some w) front whole e f = e
+
   calm_behind : (ps : List Path) (q : Path) → denied_of tree base ps ≡ None → denied_at tree base q ≡ None → denied_of tree base (ps ++ q ∷ []) ≡ None
   calm_behind [] q h k = ap (λ o. first_of (o ∷ [])) k
-  calm_behind (p ∷ ps) q h k = at (denied_at tree base p) h
-    where
-      at : (o : Option Denial) → first_of (o ∷ each_denied tree base ps) ≡ None → first_of (o ∷ each_denied tree base (ps ++ q ∷ [])) ≡ None
-      at None e = calm_behind ps q e k
-      at (Some w) e = e
+  calm_behind (p ∷ ps) q h k = calm_step (denied_at tree base p) (each_denied tree base ps) (each_denied tree base (ps ++ q ∷ [])) h (λ e. calm_behind ps q e k)
 
   past_first : (o : Option Denial) (front whole : List (Option Denial)) (w : Denial) → first_of (o ∷ front) ≡ None → (first_of front ≡ None → first_of whole ≡ Some w) → first_of (o ∷ whole) ≡ Some w
   past_first None front whole w e f = f e

@@ -1,6 +1,6 @@
 //! Which revisions changed some paths.
 
-ghost use Rattle.std.specs.Prelude.{◌≡◌, ◌++◌, suc, take, map, [], None, Some, IfOk, IfErr, if◌then◌else◌};
+ghost use Rattle.std.specs.Prelude.{◌≡◌, ◌++◌, ◌∷◌, suc, take, map, [], None, Some, IfOk, IfErr, if◌then◌else◌};
 ghost use Rattle.std.specs.Io.KnownBytes.{Appends};
 ghost use Rattle.repo_core.specs.Repository.{Repository, trees_of};
 ghost use Rattle.ra_item.specs.Items.{spell};
@@ -161,10 +161,25 @@ fn places_in(
         (λ v. v.items ≡ map (place number) (paths_below base.now paths.now)) result }
 {
     if paths.is_empty() {
-        let root = [NodePath::root(alloc)];
-        return each_in(alloc, tree, number, &root[0], &root);
+        return root_in(alloc, tree, number);
     }
     each_in(alloc, tree, number, base, paths)
+}
+
+// The same of the root alone.
+fn root_in(alloc: Global, tree: &Tree, number: RevNo) -> Result<Vec<Place>, Stop>
+    ensures { Decides (paths_denied tree.now ([] ∷ [])) (λ v. v.items ≡ place number [] ∷ []) result }
+{
+    let root = NodePath::root(alloc);
+    let next = match place_in(alloc, tree, number, &root, &root) {
+        Ok(next) => next,
+        Err(stop) => return Err(stop),
+    };
+    let mut places = Vec::new(alloc);
+    if places.push(next).is_err() {
+        return Err(Stop::OutOfMemory);
+    }
+    Ok(places)
 }
 
 // The same of paths, one after another.

@@ -11,8 +11,8 @@ returns-in-Err-clause-refused g c = λ x e.
     let b = asked x c.args.end in
     refused_above x _ _ _ a (newer a b) c.in-Err.fault (omega arith) (newer_left a b) (c.in-Err.ensures.refused x e)
 
-pub returns-in-Err-asked-2-clause-refused : goal.returns-in-Err-asked-2-clause-refused
-returns-in-Err-asked-2-clause-refused g c = λ x e.
+pub returns-in-Err-asked-clause-refused : goal.returns-in-Err-asked-clause-refused
+returns-in-Err-asked-clause-refused g c = λ x e.
     let a = asked x c.args.start in
     let b = asked x c.args.end in
-    refused_above x _ _ _ b (newer a b) c.in-Err-asked-2.fault c.asked.ensures.stays.goes.later (newer_right a b) (c.in-Err-asked-2.ensures.refused x (c.asked.ensures.stays.repository ∙ e))
+    refused_above x _ _ _ b (newer a b) c.in-Err-asked.fault c.asked.ensures.stays.goes.later (newer_right a b) (c.in-Err-asked.ensures.refused x (c.asked.ensures.stays.repository ∙ e))

@@ -1,0 +1,8 @@
+use Rattle.std.proofs.Common.{◌∙◌, sym}
+use Rattle.browse_wire.specs.Asks.{ask_as}
+use Rattle.ra_browse.specs.Tellings.{place_as}
+use Rattle.ra_browse.proofs.Exits.{answers_other}
+use Rattle.ra_browse.proofs.answer.command_answer.Goals as goal
+
+pub returns-clause-told : goal.returns-clause-told
+returns-clause-told g c = answers_other g.P.RepoPort.repository g.P.RepoPort.refusals g.W.Write.contents (place_as c.args.place.now) (ask_as c.args.command.now) c.args.port.now c.args.out c.deny.result c.unanswered.result (sym c.is_answered.ensures ∙ c.if-is_answered.false) c.unanswered.ensures c.deny.ensures
