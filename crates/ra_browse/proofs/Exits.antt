@@ -25,7 +25,6 @@ use Rattle.ra_serve.specs.Ports.{refusal_of, IsOwn, tree_of}
 use Rattle.ra_serve.specs.Sessions.{identity_text}
 use Rattle.ra_serve.proofs.Causes.{none_is_not, rose_later}
 use Rattle.ra_browse.specs.declared.denial.Denial.{Denial}
-use Rattle.ra_browse.specs.declared.denial.Denial.TheVariants as denial
 use Rattle.ra_browse.specs.declared.stop.Stop.{Stop}
 use Rattle.ra_browse.specs.declared.stop.Stop.TheVariants as stop
 use Rattle.ra_browse.specs.declared.look.Seen.{Seen}

@@ -1,6 +1,5 @@
 -- Logs by what stands up to some revision are those by all revisions.
-use Rattle.std.proofs.Common.{◌≡◌, ℕ, suc, ◌≤◌, ◌<◌, Bool, true, false, List, [], ◌∷◌, ◌++◌, map, take, length, refl, sym, ap, subst, ◌∙◌, arith}
-use Rattle.std.proofs.lemmas.Bool.Decides.{nat_tests}
+use Rattle.std.proofs.Common.{◌≡◌, ℕ, suc, ◌≤◌, ◌<◌, Bool, true, false, List, [], ◌∷◌, map, take, sym, ap, subst, ◌∙◌, arith}
 use Rattle.std.proofs.lemmas.List.Elements.{All-weaker, All-contains, All-from_recursion, recursion_from_All}
 use Rattle.std.specs.Prelude.{nat_lt, if◌then◌else◌}
 use Rattle.std.specs.List.{All, AllByRecursion, Contains}
@@ -11,7 +10,7 @@ use Rattle.path_history.specs.declared.asked.Asked.{Asked}
 use Rattle.path_history.specs.declared.place.Place.{Place}
 use Rattle.path_history.specs.Places.{Sets, place, touches, is_touched}
 use Rattle.path_history.specs.Histories.{IsAsked}
-use Rattle.path_history.specs.Logs.{IsLogged, HasLogged, IsLog, IsOneTooLong}
+use Rattle.path_history.specs.Logs.{IsLogged, IsLog}
 use Rattle.path_history.proofs.Telling.{line_before}
 use Rattle.browse_wire.specs.Asks.{LogAsk}
 use Rattle.ra_history.specs.Logs.{IsTold, asked_of}
@@ -22,7 +21,7 @@ use Rattle.ra_log.proofs.Fronts.{get_front, entries_front}
 use Rattle.ra_log.specs.Entries.{entries_told}
 use Rattle.ra_browse.specs.declared.log.LogSought.{LogSought}
 use Rattle.ra_browse.specs.Histories.{Found, Nothing, Stood, Logged, PastLimits, FindsLog, newer, range_of, paths_below, places_below, numbers_of, entries_of}
-use Rattle.ra_browse.specs.Tellings.{AreRows, IsLogSought}
+use Rattle.ra_browse.specs.Tellings.{IsLogSought}
 use Rattle.ra_browse.proofs.Fronts.{line_whole, line_front, newer_left, newer_right}
 
 -- ---- by a front of the sets

@@ -1,9 +1,9 @@
 -- Exits of what tells a log.
-use Rattle.std.proofs.Common.{◌≡◌, ℕ, zero, suc, ◌≤◌, ◌<◌, ◌+◌, inl, inr, Bool, true, false, List, [], ◌∷◌, ◌++◌, map, take, length, get_or, Option, Some, None, Result, Ok, Err, true≢false, refl, sym, ap, subst, ◌∙◌, arith}
+use Rattle.std.proofs.Common.{◌≡◌, ℕ, zero, suc, ◌≤◌, ◌<◌, ◌+◌, inl, inr, true, false, List, [], ◌∷◌, ◌++◌, map, take, length, get_or, Option, Some, None, Result, Ok, Err, true≢false, refl, sym, ap, subst, ◌∙◌, arith}
 use Rattle.std.proofs.KnownBytes.{Appends-trans}
 use Rattle.std.proofs.lemmas.Bool.Decides.{nat_tests}
 use Rattle.std.proofs.lemmas.List.{take_more}
-use Rattle.std.specs.Prelude.{IfOk, is_none, ◌==◌, if◌then◌else◌}
+use Rattle.std.specs.Prelude.{IfOk, is_none, ◌==◌}
 use Rattle.std.specs.FinMap as finite
 use Rattle.std.specs.Io.KnownBytes.{Appends}
 use Rattle.fleet_disk.specs.Rules.{Rose}
@@ -13,7 +13,7 @@ use Rattle.dump_load.specs.Faults.{first_of}
 use Rattle.path_history.specs.declared.place.Place.{Place}
 use Rattle.path_history.specs.Places.{Sets, place}
 use Rattle.path_history.specs.Logs as log
-use Rattle.repo_core.specs.Repository.{Repository, trees_of}
+use Rattle.repo_core.specs.Repository.{Repository}
 use Rattle.ra_item.specs.Items.{spell}
 use Rattle.ra_wire.specs.Replies.{done}
 use Rattle.browse_wire.specs.Asks.{Log, LogAsk}
@@ -27,14 +27,13 @@ use Rattle.ra_serve.proofs.Causes.{none_is_not, rose_later}
 use Rattle.ra_history.specs.Logs.{IsTold}
 use Rattle.ra_history.specs.declared.range.LogRange.{LogRange}
 use Rattle.ra_log.specs.Entries.{entries_told}
-use Rattle.ra_log.specs.declared.rows.LogRows.{LogRows}
 use Rattle.ra_browse.specs.declared.denial.Denial.{Denial}
 use Rattle.ra_browse.specs.declared.denial.Denial.TheVariants as denial
 use Rattle.ra_browse.specs.declared.log.LogSought.{LogSought}
 use Rattle.ra_browse.specs.declared.stop.Stop.{Stop}
 use Rattle.ra_browse.specs.declared.stop.Stop.TheVariants as stop
 use Rattle.ra_browse.specs.Denials.{denied, unless_denied}
-use Rattle.ra_browse.specs.Histories.{Found, Logged, PastLimits, FindsLog, FindsLogIf, newer, newest_logged, range_of, range_logged, paths_below, places_below, places_logged, numbers_of, entries_of, found_denied}
+use Rattle.ra_browse.specs.Histories.{Logged, PastLimits, FindsLogIf, newer, newest_logged, range_of, range_logged, paths_below, places_logged, numbers_of, entries_of, found_denied}
 use Rattle.ra_browse.specs.Answers.{no_revision, place_denied, paths_denied, logged_denied, log_denied}
 use Rattle.ra_browse.specs.Tellings.{MayStop, Comes, TellsBehind, TellsLogged, AreRows, IsLogSought, Replied, Tells, Denies, Decides}
 use Rattle.ra_browse.proofs.Causes.{is_there}
