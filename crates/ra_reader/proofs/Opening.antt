@@ -24,6 +24,7 @@ use Rattle.ra_serve.specs.declared.fault.End as declared
 use Rattle.ra_serve.specs.declared.fault.End.TheVariants as end
 use Rattle.ra_serve.specs.declared.fault.ServeFault.{ServeFault}
 use Rattle.ra_serve.proofs.Opening.{fault_alone}
+use Rattle.ra_reader.specs.Standings.{ready_at}
 use Rattle.ra_reader.specs.Sessions.{Turn, HelloHas, LoginHas, SessionHas, answers, behind_login, behind_hello, session, greeting, place_in, goes_on, ends_opening, commands_of}
 use Rattle.ra_reader.specs.Serving.{BrowsesBy, behind_one, spelled_login}
 use Rattle.ra_reader.proofs.Turning.{as_turn, one_before, ends_at_once}
@@ -123,16 +124,16 @@ no_of : (o : Option Login) → Some false ≡ option_map is_anonymous o → logs
 no_of None e = refl
 no_of (Some l) e = sym (ap known e)
 
-said_yes : (at : Url) (o : Option Login) → Some true ≡ option_map is_anonymous o → (x : Repository) (ts : List Turn) → behind_login at x o ts ≡ (spell done ++ spell (welcome (identity_text x) at.0)) ++ answers x at ts
+said_yes : (at : Url) (o : Option Login) → Some true ≡ option_map is_anonymous o → (x : Repository) (ts : List Turn) → behind_login at x o ts ≡ (spell done ++ spell (welcome (identity_text x) at.0)) ++ answers x (ready_at at) ts
 said_yes at None e x ts = absurd (true≢false (ap is_there e))
 said_yes at (Some l) e x ts =
-    ap (λ b. if b then spell done ++ (spell (welcome (identity_text x) at.0) ++ answers x at ts) else spell only_anonymous) (sym (ap known e))
-    ∙ sym (append_assoc (spell done) (spell (welcome (identity_text x) at.0)) (answers x at ts))
+    ap (λ b. if b then spell done ++ (spell (welcome (identity_text x) at.0) ++ answers x (ready_at at) ts) else spell only_anonymous) (sym (ap known e))
+    ∙ sym (append_assoc (spell done) (spell (welcome (identity_text x) at.0)) (answers x (ready_at at) ts))
 
-pub login_said : (at : Url) (item : Item) → Some true ≡ option_map is_anonymous (login_in item) → (x : Repository) (ts : List Turn) → spelled_login at x (as_turn item ∷ ts) ≡ (spell (mechanisms (identity_text x)) ++ (spell done ++ spell (welcome (identity_text x) at.0))) ++ answers x at ts
+pub login_said : (at : Url) (item : Item) → Some true ≡ option_map is_anonymous (login_in item) → (x : Repository) (ts : List Turn) → spelled_login at x (as_turn item ∷ ts) ≡ (spell (mechanisms (identity_text x)) ++ (spell done ++ spell (welcome (identity_text x) at.0))) ++ answers x (ready_at at) ts
 login_said at item e x ts =
     ap (λ r. spell (mechanisms (identity_text x)) ++ r) (said_yes at (login_in item) e x ts)
-    ∙ sym (append_assoc (spell (mechanisms (identity_text x))) (spell done ++ spell (welcome (identity_text x) at.0)) (answers x at ts))
+    ∙ sym (append_assoc (spell (mechanisms (identity_text x))) (spell done ++ spell (welcome (identity_text x) at.0)) (answers x (ready_at at) ts))
 
 pub login_goes : (item : Item) → Some true ≡ option_map is_anonymous (login_in item) → (xs : List Item) → goes_on_login (item ∷ xs) ≡ true
 login_goes item e xs = yes_of (login_in item) e

@@ -14,36 +14,32 @@ use Rattle.ra_item.specs.declared.fault.ItemFault.TheVariants as fault
 use Rattle.ra_item.specs.declared.fault.NextFault.TheVariants as next
 use Rattle.repo_core.specs.Repository.{Repository}
 use Rattle.browse_wire.specs.Urls.{Url}
-use Rattle.browse_wire.specs.AskReading.{ask_in}
 use Rattle.ra_serve.specs.declared.fault.PortFault.{PortFault}
 use Rattle.ra_serve.specs.Serving.{EndsAt, HasFault, no_failure, any, none}
 use Rattle.ra_serve.specs.declared.fault.End as declared
 use Rattle.ra_serve.specs.declared.fault.End.TheVariants as end
 use Rattle.ra_browse.specs.Histories.{Nothing}
-use Rattle.ra_browse.specs.Answers.{IsCalm, MayHalt, MayHave, halts_in, answer, behind}
-use Rattle.ra_reader.specs.Sessions.{Turn, place_after, answers, stands, AllMayHalt, AllHave, halts}
+use Rattle.ra_browse.specs.Answers.{IsCalm, halts_in}
+use Rattle.ra_reader.specs.Standings.{Standing, Added, ready_at}
+use Rattle.ra_reader.specs.Sessions.{Turn, answer_to, stands_behind, answers, stands, Has, AllHave, halts}
 use Rattle.ra_reader.specs.Serving.{Browses, all, all_have, answers_at}
-use Rattle.ra_browse.specs.Tellings.{Answered}
+use Rattle.ra_reader.specs.Takings.{Turned}
 
 -- ---- one turn more
 
-answers_more : (x : Repository) (at : Url) (ts : List Turn) (t : Turn) → answers x at (ts ++ t ∷ []) ≡ answers x at ts ++ answer x (stands at ts) (ask_in t.item) t.found t.halt
-answers_more x at [] t = append-nil (answer x at (ask_in t.item) t.found t.halt)
-answers_more x at (s ∷ ts) t = ap (λ l. answer x at (ask_in s.item) s.found s.halt ++ l) (answers_more x (place_after at s) ts t) ∙ sym (append_assoc (answer x at (ask_in s.item) s.found s.halt) (answers x (place_after at s) ts) (answer x (stands (place_after at s) ts) (ask_in t.item) t.found t.halt))
+answers_more : (x : Repository) (at : Standing) (ts : List Turn) (t : Turn) → answers x at (ts ++ t ∷ []) ≡ answers x at ts ++ answer_to x (stands at ts) t
+answers_more x at [] t = append-nil (answer_to x at t)
+answers_more x at (s ∷ ts) t = ap (λ l. answer_to x at s ++ l) (answers_more x (stands_behind at s) ts t) ∙ sym (append_assoc (answer_to x at s) (answers x (stands_behind at s) ts) (answer_to x (stands (stands_behind at s) ts) t))
 
-stands_more : (at : Url) (ts : List Turn) (t : Turn) → stands at (ts ++ t ∷ []) ≡ place_after (stands at ts) t
+stands_more : (at : Standing) (ts : List Turn) (t : Turn) → stands at (ts ++ t ∷ []) ≡ stands_behind (stands at ts) t
 stands_more at [] t = refl
-stands_more at (s ∷ ts) t = stands_more (place_after at s) ts t
+stands_more at (s ∷ ts) t = stands_more (stands_behind at s) ts t
 
-may_more : (ts : List Turn) (t : Turn) → AllMayHalt ts → MayHalt (ask_in t.item) t.halt → AllMayHalt (ts ++ t ∷ [])
-may_more [] t h m = (m, tt)
-may_more (s ∷ ts) t h m = (h.0, may_more ts t h.1 m)
-
-have_more : (x : Repository) (at : Url) (ts : List Turn) (t : Turn) → AllHave x at ts → MayHave x (stands at ts) (ask_in t.item) t.halt t.found → AllHave x at (ts ++ t ∷ [])
+have_more : (x : Repository) (at : Standing) (ts : List Turn) (t : Turn) → AllHave x at ts → Has x (stands at ts) t → AllHave x at (ts ++ t ∷ [])
 have_more x at [] t h m = (m, tt)
-have_more x at (s ∷ ts) t h m = (h.0, have_more x (place_after at s) ts t h.1 m)
+have_more x at (s ∷ ts) t h m = (h.0, have_more x (stands_behind at s) ts t h.1 m)
 
-halts_more : (ts : List Turn) (t : Turn) → halts (ts ++ t ∷ []) ≡ halts ts + halts_in t.halt
+halts_more : (ts : List Turn) (t : Turn) → halts (ts ++ t ∷ []) ≡ halts ts + halts_in t.added.halt
 halts_more [] t = omega arith
 halts_more (s ∷ ts) t = let e = halts_more ts t in omega (arith, e)
 
@@ -54,75 +50,70 @@ rose_more k p m n (Some x) h (inl r) (inl c) = absurd c
 rose_more k p m n (Some x) h (inl r) (inr (inl s)) = inl (omega (arith, r, s))
 rose_more k p m n (Some x) h (inl r) (inr (inr s)) = inr s
 
-counted_more : (ts : List Turn) (t : Turn) (p m n : ℕ) → m ≤ n → RoseBy (halts ts) p m → IsCalm t.halt ⊎ Rose m n → RoseBy (halts (ts ++ t ∷ [])) p n
-counted_more ts t p m n k r c = subst (λ j. RoseBy j p n) (sym (halts_more ts t)) (rose_more (halts ts) p m n t.halt k r c)
+counted_more : (ts : List Turn) (t : Turn) (p m n : ℕ) → m ≤ n → RoseBy (halts ts) p m → IsCalm t.added.halt ⊎ Rose m n → RoseBy (halts (ts ++ t ∷ [])) p n
+counted_more ts t p m n k r c = subst (λ j. RoseBy j p n) (sym (halts_more ts t)) (rose_more (halts ts) p m n t.added.halt k r c)
 
--- commands so far: these turns were taken and answered, and here they led
-pub record Going (x : Repository) (at here : Url) (p n : ℕ) (told now : Option (List ℕ)) (before after : Option (List ℕ)) (was is : List ℕ → Stream) : Type 0 where
+-- items so far: these turns were taken and answered, and here they led
+pub record Going (x : Repository) (at here : Standing) (p n : ℕ) (told now : Option (List ℕ)) (before after : Option (List ℕ)) (was is : List ℕ → Stream) : Type 0 where
   pub turns : List Turn
   pub found : AllHave x at turns
-  pub lawful : AllMayHalt turns
   pub counted : RoseBy (halts turns) p n
   pub bytes : Appends told now (answers x at turns)
   pub led : here ≡ stands at turns
   pub taken : Takes (map (λ t. t.item) turns) before after was is
 
-pub going_start : (x : Repository) (at : Url) (p : ℕ) (told : Option (List ℕ)) (before : Option (List ℕ)) (was : List ℕ → Stream) → Going x at at p p told told before before was was
+pub going_start : (x : Repository) (at : Standing) (p : ℕ) (told : Option (List ℕ)) (before : Option (List ℕ)) (was : List ℕ → Stream) → Going x at at p p told told before before was was
 going_start x at p told before was = record {
   turns = [];
   found = tt;
-  lawful = tt;
   counted = inl (omega arith);
   bytes = Appends-nil told;
   led = refl;
   taken = takes_none before was;
 }
 
-pub going_more : (x : Repository) (at here there : Url) (p m n : ℕ) (told mid now : Option (List ℕ)) (before amid after : Option (List ℕ)) (was then is : List ℕ → Stream) (item : Item)
+pub going_more : (x : Repository) (at here there : Standing) (p m n : ℕ) (told mid now : Option (List ℕ)) (before amid after : Option (List ℕ)) (was then is : List ℕ → Stream) (item : Item)
     → m ≤ n
     → Going x at here p m told mid before amid was then
     → Takes (item ∷ []) amid after then is
-    → Answered x here (ask_in item) (Rose m n) mid now
-    → there ≡ behind here (ask_in item)
+    → Turned x here item (Rose m n) mid now there
     → Going x at there p n told now before after was is
-going_more x at here there p m n told mid now before amid after was then is item k g taken a led =
-    let t : Turn = record { item = item; found = a.found; halt = a.halt } in
-    let told_here : Appends mid now (answer x (stands at g.turns) (ask_in item) a.found a.halt) = subst (λ u. Appends mid now (answer x u (ask_in item) a.found a.halt)) g.led a.bytes in
+going_more x at here there p m n told mid now before amid after was then is item k g taken a =
+    let t : Turn = record { item = item; added = a.added } in
+    let told_here : Appends mid now (answer_to x (stands at g.turns) t) = subst (λ s. Appends mid now (answer_to x s t)) g.led a.bytes in
     record {
       turns = g.turns ++ t ∷ [];
-      found = have_more x at g.turns t g.found (subst (λ u. MayHave x u (ask_in item) a.halt a.found) g.led a.has);
-      lawful = may_more g.turns t g.lawful a.lawful;
+      found = have_more x at g.turns t g.found (subst (λ s. Has x s t) g.led a.has);
       counted = counted_more g.turns t p m n k g.counted a.counted;
-      bytes = subst (Appends told now) (sym (answers_more x at g.turns t)) (Appends-trans told mid now (answers x at g.turns) (answer x (stands at g.turns) (ask_in item) a.found a.halt) g.bytes told_here);
-      led = led ∙ ap (λ u. behind u (ask_in item)) g.led ∙ sym (stands_more at g.turns t);
+      bytes = subst (Appends told now) (sym (answers_more x at g.turns t)) (Appends-trans told mid now (answers x at g.turns) (answer_to x (stands at g.turns) t) g.bytes told_here);
+      led = a.led ∙ ap (λ s. stands_behind s t) g.led ∙ sym (stands_more at g.turns t);
       taken = subst (λ xs. Takes xs before after was is) (sym (map-append (λ (u : Turn). u.item) g.turns (t ∷ []))) (takes_more (map (λ (u : Turn). u.item) g.turns) (item ∷ []) before amid after was then is g.taken taken);
     }
 
 -- ---- the end of the commands
 
-browses : (x : Repository) (at here : Url) (p n : ℕ) (told now : Option (List ℕ)) (before amid after : Option (List ℕ)) (was then is : List ℕ → Stream) (spent : Bool) (e : declared.End)
-    → (g : Going x at here p n told now before amid was then)
+browses : (x : Repository) (at : Url) (here : Standing) (p n : ℕ) (told now : Option (List ℕ)) (before amid after : Option (List ℕ)) (was then is : List ℕ → Stream) (spent : Bool) (e : declared.End)
+    → (g : Going x (ready_at at) here p n told now before amid was then)
     → EndsAt any none (map (λ t. t.item) g.turns) before after was is spent e
     → Browses (answers_at at x) (all_have at x) all any none p n told now before after was is spent e
 browses x at here p n told now before amid after was then is spent e g ends = record {
   turns = g.turns;
   found = g.found;
-  lawful = g.lawful;
   counted = g.counted;
   bytes = g.bytes;
   ends = ends;
 }
 
-pub commands_end : (x : Repository) (at here : Url) (p n : ℕ) (told now : Option (List ℕ)) (before amid after : Option (List ℕ)) (was then is : List ℕ → Stream) (spent : Bool)
-    → Going x at here p n told now before amid was then
+pub commands_end : (x : Repository) (at : Url) (here : Standing) (p n : ℕ) (told now : Option (List ℕ)) (before amid after : Option (List ℕ)) (was then is : List ℕ → Stream) (spent : Bool)
+    → Going x (ready_at at) here p n told now before amid was then
     → Ends [] true amid after then
     → Browses (answers_at at x) (all_have at x) all any none p n told now before after was is spent end.Input
 commands_end x at here p n told now before amid after was then is spent g e =
     browses x at here p n told now before amid after was then is spent end.Input g
     (refl, subst (λ xs. Ends xs true before after was) (append-nil (map (λ (t : Turn). t.item) g.turns)) (takes_end (map (λ (t : Turn). t.item) g.turns) [] true before amid after was then g.taken e))
 
-pub commands_stop : (x : Repository) (at here : Url) (p n : ℕ) (told now : Option (List ℕ)) (before amid after : Option (List ℕ)) (was then is : List ℕ → Stream) (spent spent_now : Bool) (f : ItemFault)
-    → Going x at here p n told now before amid was then
+pub commands_stop : (x : Repository) (at : Url) (here : Standing) (p n : ℕ) (told now : Option (List ℕ)) (before amid after : Option (List ℕ)) (was then is : List ℕ → Stream) (spent spent_now : Bool) (f : ItemFault)
+    → Going x (ready_at at) here p n told now before amid was then
     → (spent_now ≡ true → spent ≡ true)
     → HasFault [] amid after then spent_now f
     → f ≢ fault.OutOfMemory
@@ -133,8 +124,12 @@ commands_stop x at here p n told now before amid after was then is spent spent_n
 
 -- ---- what stands before other turns
 
+-- nothing is added to an item
+abbrev pub unadded : Added
+unadded = record { found = Nothing; edit = None; halt = None }
+
 abbrev pub as_turn : Item → Turn
-as_turn item = record { item = item; found = Nothing; halt = None }
+as_turn item = record { item = item; added = unadded }
 
 -- an item of the opening, and then the rest of it
 ends_behind : (stands over stands_rest over_rest : List Item → Bool) (item : Item) (xs : List Item) (before amid after : Option (List ℕ)) (was then is : List ℕ → Stream) (spent spent_now : Bool) (e : declared.End)
@@ -162,7 +157,6 @@ pub one_before : (spelled spelled_rest : List Turn → List ℕ) (Has HasRest : 
 one_before spelled spelled_rest Has HasRest asked asked_rest stands over stands_rest over_rest refused refused_now told mid now before amid after was then is spent spent_now e item bytes s v q h k a t p r = record {
   turns = as_turn item ∷ r.turns;
   found = v r.turns r.found;
-  lawful = subst AllMayHalt (sym (q r.turns)) r.lawful;
   counted = subst (λ ts. RoseBy (halts ts) refused refused_now) (sym (q r.turns)) r.counted;
   bytes = subst (Appends told now) (sym (s r.turns)) (Appends-trans told mid now bytes (spelled_rest r.turns) a r.bytes);
   ends = ends_behind stands over stands_rest over_rest item (map (λ (u : Turn). u.item) r.turns) before amid after was then is spent spent_now e (h (map (λ (u : Turn). u.item) r.turns)) (k (map (λ (u : Turn). u.item) r.turns)) t p r.ends;
@@ -179,7 +173,6 @@ pub ends_at_once : (spelled : List Turn → List ℕ) (Has : List Turn → Type 
 ends_at_once spelled Has asked stands over refused told now before after was is spent e ts v q a k = record {
   turns = ts;
   found = v;
-  lawful = subst AllMayHalt (sym q) tt;
   counted = subst (λ l. RoseBy (halts l) refused refused) (sym q) (inl (omega arith));
   bytes = a;
   ends = k;

@@ -12,14 +12,14 @@ use Rattle.browse_wire.specs.Urls.{Url}
 use Rattle.ra_serve.specs.Sessions.{identity_text}
 use Rattle.ra_serve.specs.Serving.{EndsAt, any, none, goes_on_login, ends_at_login}
 use Rattle.ra_serve.specs.declared.fault.End as declared
-use Rattle.ra_reader.specs.Sessions.{Turn, AllMayHalt, AllHave, LoginHas, SessionHas, halts, answers, asked_who, session, commands_of, goes_on, ends_opening}
+use Rattle.ra_reader.specs.Standings.{ready_at}
+use Rattle.ra_reader.specs.Sessions.{Turn, AllHave, LoginHas, SessionHas, halts, answers, asked_who, session, commands_of, goes_on, ends_opening}
 
--- some turns were taken: their answers stand behind what the writer had, what they told of histories is what these have, each refusal
--- of the port's own is one that it may give, and its count of these rose by as many
+-- some turns were taken: their answers stand behind what the writer had, what was added to them is what the repository has, each
+-- refusal of the port's own is one that it may give, and its count of these rose by as many
 pub record Browses (spelled : List Turn → List ℕ) (Has : List Turn → Type 0) (asked : List Turn → List Turn) (stands over : List Item → Bool) (refused refused_now : ℕ) (told now : Option (List ℕ)) (before after : Option (List ℕ)) (was is : List ℕ → Stream) (spent : Bool) (e : declared.End) : Type 0 where
   pub turns : List Turn
   pub found : Has turns
-  pub lawful : AllMayHalt (asked turns)
   pub counted : RoseBy (halts (asked turns)) refused refused_now
   pub bytes : Appends told now (spelled turns)
   pub ends : EndsAt stands over (map (λ t. t.item) turns) before after was is spent e
@@ -40,10 +40,10 @@ abbrev pub all : List Turn → List Turn
 all ts = ts
 
 abbrev pub answers_at : Url → Repository → List Turn → List ℕ
-answers_at at x ts = answers x at ts
+answers_at at x ts = answers x (ready_at at) ts
 
 abbrev pub all_have : Url → Repository → List Turn → Type 0
-all_have at x ts = AllHave x at ts
+all_have at x ts = AllHave x (ready_at at) ts
 
 abbrev pub BrowsesCommands : {P R W : Type 0} {g : _} → (P → Option Repository) → (P → ℕ) → (R → Option (List ℕ)) → (W → Option (List ℕ)) → Url → P → P → ItemStream R g → ItemStream R g → W → W → declared.End → Type 0
 BrowsesCommands repository refusals remaining contents at = BrowsesBy (answers_at at) (all_have at) all any none repository refusals remaining contents

@@ -6,51 +6,50 @@ use Rattle.ra_item.specs.Items.{Item, Word, Number, spell}
 use Rattle.repo_core.specs.Repository.{Repository}
 use Rattle.ra_wire.specs.Openings.{Hello, Login, hello_in, login_in}
 use Rattle.ra_wire.specs.Replies.{list, success, mechanisms, only_anonymous, welcome, done}
-use Rattle.browse_wire.specs.AskReading.{ask_in}
 use Rattle.browse_wire.specs.Urls.{Url, url_read}
 use Rattle.browse_wire.specs.declared.url.UrlFault.{UrlFault}
 use Rattle.browse_wire.specs.declared.url.UrlFault.TheVariants as bad
-use Rattle.ra_serve.specs.declared.fault.PortFault.{PortFault}
 use Rattle.ra_serve.specs.Answers.{refused}
 use Rattle.ra_serve.specs.Sessions.{identity_text, is_anonymous, logs_in}
-use Rattle.ra_browse.specs.Histories.{Found}
-use Rattle.ra_browse.specs.Answers.{answer, behind, MayHalt, MayHave, halts_in}
+use Rattle.ra_browse.specs.Answers.{halts_in}
+use Rattle.ra_reader.specs.Standings.{Standing, Added, ready_at, told_at, leads_to, HasAt}
 
--- an item that a client sent, what was found of histories for it, and the port's own refusal of it, where it refused it by itself
+-- an item that a client sent, and what the session adds to it
 pub record Turn : Type 0 where
   pub item : Item
-  pub found : Found
-  pub halt : Option PortFault
+  pub added : Added
 
--- ---- commands
+-- ---- behind the opening
 
--- where the session stands behind such an item
-abbrev pub place_after : Url → Turn → Url
-place_after at t = behind at (ask_in t.item)
+-- what an item is told where the session stands
+abbrev pub answer_to : Repository → Standing → Turn → List ℕ
+answer_to x s t = told_at x s.at s.phase t.item t.added
+
+-- where the session stands behind it
+abbrev pub stands_behind : Standing → Turn → Standing
+stands_behind s t = leads_to s.at s.phase t.item t.added
 
 -- each is answered where those before it left the session
-abbrev pub answers : Repository → Url → List Turn → List ℕ
-answers x at [] = []
-answers x at (t ∷ ts) = answer x at (ask_in t.item) t.found t.halt ++ answers x (place_after at t) ts
+abbrev pub answers : Repository → Standing → List Turn → List ℕ
+answers x s [] = []
+answers x s (t ∷ ts) = answer_to x s t ++ answers x (stands_behind s t) ts
 
-abbrev pub stands : Url → List Turn → Url
-stands at [] = at
-stands at (t ∷ ts) = stands (place_after at t) ts
+abbrev pub stands : Standing → List Turn → Standing
+stands s [] = s
+stands s (t ∷ ts) = stands (stands_behind s t) ts
 
--- each refusal of the port's own is one that it may give there
-abbrev pub AllMayHalt : List Turn → Type 0
-AllMayHalt [] = Unit {0}
-AllMayHalt (t ∷ ts) = MayHalt (ask_in t.item) t.halt × AllMayHalt ts
+-- to each is added what the repository has, and a refusal of the port's own only where it may refuse
+abbrev pub Has : Repository → Standing → Turn → Type 0
+Has x s t = HasAt x s.at s.phase t.item t.added
 
--- what was found is what the histories of the repository have
-abbrev pub AllHave : Repository → Url → List Turn → Type 0
-AllHave x at [] = Unit {0}
-AllHave x at (t ∷ ts) = MayHave x at (ask_in t.item) t.halt t.found × AllHave x (place_after at t) ts
+abbrev pub AllHave : Repository → Standing → List Turn → Type 0
+AllHave x s [] = Unit {0}
+AllHave x s (t ∷ ts) = Has x s t × AllHave x (stands_behind s t) ts
 
 -- how many refusals there are
 abbrev pub halts : List Turn → ℕ
 halts [] = 0
-halts (t ∷ ts) = halts_in t.halt + halts ts
+halts (t ∷ ts) = halts_in t.added.halt + halts ts
 
 -- ---- the opening
 
@@ -74,7 +73,7 @@ place_in item = place_of (hello_in item)
 -- behind what a client says of itself
 abbrev pub behind_login : Url → Repository → Option Login → List Turn → List ℕ
 behind_login at x None ts = refused refusal.BadShape
-behind_login at x (Some l) ts = if is_anonymous l then spell done ++ (spell (welcome (identity_text x) at.0) ++ answers x at ts) else spell only_anonymous
+behind_login at x (Some l) ts = if is_anonymous l then spell done ++ (spell (welcome (identity_text x) at.0) ++ answers x (ready_at at) ts) else spell only_anonymous
 
 abbrev pub asked_who : Url → Repository → List Turn → List ℕ
 asked_who at x [] = []
@@ -102,7 +101,7 @@ commands_of (h ∷ (l ∷ ts)) = ts
 -- the same behind the opening
 abbrev pub LoginHas : Url → Repository → List Turn → Type 0
 LoginHas at x [] = Unit {0}
-LoginHas at x (l ∷ ts) = AllHave x at ts
+LoginHas at x (l ∷ ts) = AllHave x (ready_at at) ts
 
 abbrev pub HelloHas : Repository → Result Url Refusal → List Turn → Type 0
 HelloHas x (Err r) ts = Unit {0}

@@ -11,20 +11,19 @@ ghost use Rattle.ra_item.specs.Items.{spell, Number, Word};
 ghost use Rattle.ra_item.specs.declared.fault.NextFault.TheVariants as next;
 ghost use Rattle.ra_wire.specs.Openings.{login_in, login_as};
 ghost use Rattle.ra_wire.specs.Replies.{answer_of, done, list, mechanisms, only_anonymous, welcome};
-ghost use Rattle.browse_wire.specs.AskReading.{ask_in};
 ghost use Rattle.browse_wire.specs.Urls.{url_read};
 ghost use Rattle.ra_serve.specs.Answers.{refused};
 ghost use Rattle.ra_serve.specs.Serving.{EndsBy};
 ghost use Rattle.ra_serve.specs.Sessions.{is_anonymous};
-ghost use Rattle.ra_browse.specs.Answers.{behind};
 ghost use Rattle.ra_reader.specs.Serving.{BrowsesSession, BrowsesLogin, BrowsesCommands};
 ghost use Rattle.ra_reader.specs.Sessions.{greeting, place_in, place_read};
-ghost use Rattle.ra_browse.specs.Tellings.{place_as, Answers, PortStays};
-ghost use Rattle.ra_reader.specs.Takings.{placed_as, refusal_for};
+ghost use Rattle.ra_browse.specs.Tellings.{place_as, PortStays};
+ghost use Rattle.ra_reader.specs.Takings.{placed_as, refusal_for, standing_as, Turns};
 
+use crate::phase::Phase;
+use crate::take::take;
 use browse_wire::url::{SessionUrl, UrlFault};
 use byte_streams::Input;
-use ra_browse::answer::answer;
 use ra_browse::{write_end, write_name};
 use ra_item::fault::{ItemFault, NextFault};
 use ra_item::item::Item;
@@ -342,10 +341,15 @@ fn commands<P: RepoPort, I: Input + Drop, W: Write + Drop>(
     ensures stays { PortStays P.repository P.refusals P.is_mirror port.old port.new }
 {
     let mut here = place;
+    let mut phase = Phase::Idle;
     let mut sent = out;
     for _ in 0..u64::MAX {
         match items.next() {
-            Ok(Some(item)) => sent = turn(alloc, port, &mut here, item, sent)?,
+            Ok(Some(item)) => {
+                let (next, told) = turn(alloc, port, &mut here, phase, item, sent)?;
+                phase = next;
+                sent = told;
+            }
             Ok(None) => return Ok((sent, End::Input)),
             Err(fault) => return ended(fault, sent),
         }
@@ -353,22 +357,25 @@ fn commands<P: RepoPort, I: Input + Drop, W: Write + Drop>(
     Err(ServeFault::OutOfMemory)
 }
 
-// Answers an item, and lets the answer go out.
+// Takes an item, and lets the answer go out.
 fn turn<P: RepoPort, W: Write + Drop>(
     alloc: Global,
     port: &mut P,
     place: &mut SessionUrl,
+    phase: Phase,
     item: Item,
     out: W,
-) -> Result<W, ServeFault>
-    ensures told { IfOk result (Answers P.repository P.refusals W.contents (place_as place.old) (ask_in item)
-        port.old port.new out) }
-    ensures moved { IfOk result (λ _. place_as place.new ≡ behind (place_as place.old) (ask_in item)) }
+) -> Result<(Phase, W), ServeFault>
+    ensures told { IfOk result (λ r. Turns P.repository P.refusals W.contents (standing_as place.old phase) item
+        port.old port.new out r.1 (standing_as place.new r.0)) }
     ensures stays { PortStays P.repository P.refusals P.is_mirror port.old port.new }
     ensures writer { IfErr result (λ f. f ≡ ServeFault.ReadFailed → ⊥) }
 {
-    match answer(alloc, port, place, item, out) {
-        Ok(out) => flushed(out),
+    match take(alloc, port, place, phase, item, out) {
+        Ok((phase, out)) => {
+            let out = flushed(out)?;
+            Ok((phase, out))
+        }
         Err(ServeFault::OutOfMemory) => Err(ServeFault::OutOfMemory),
         Err(_) => Err(ServeFault::WriteFailed),
     }
