@@ -1,7 +1,9 @@
 -- An item, as it was taken in each phase.
-use Rattle.std.proofs.Common.{◌≡◌, ◌⊎◌, inl, ℕ, Bool, true, false, true≢false, List, [], ◌∷◌, ◌++◌, Option, Some, None, Ok, Err, refl, sym, ap, subst, ◌∙◌}
+use Rattle.std.proofs.Common.{◌≡◌, ◌≤◌, ◌<◌, ◌⊎◌, inl, ℕ, Bool, true, false, true≢false, List, [], ◌∷◌, ◌++◌, length, map, nat_lt, Option, Some, None, Result, Ok, Err, refl, sym, ap, subst, ◌∙◌, arith}
 use Rattle.std.proofs.KnownBytes.{Appends-nil, Appends-kept}
-use Rattle.std.specs.Prelude.{is_some, if◌then◌else◌}
+use Rattle.std.proofs.lemmas.Bool.Decides.{nat_tests}
+use Rattle.std.proofs.lemmas.List.{length-map, map-append}
+use Rattle.std.specs.Prelude.{is_some, IfOk, if◌then◌else◌}
 use Rattle.std.specs.Io.KnownBytes.{Appends, Keeps}
 use Rattle.fleet_disk.specs.Rules.{Rose}
 use Rattle.ra_item.specs.Items.{Item, spell}
@@ -10,10 +12,16 @@ use Rattle.ra_wire.specs.Answers.{reply_in}
 use Rattle.ra_wire.specs.Replies.{authorised, done}
 use Rattle.browse_wire.specs.Asks.{Ask, Plain, Stat, Log, Locations, Segments, FileRevs, Reparent, GetLock, GetLocks, Update, Switch, Status, Diff}
 use Rattle.browse_wire.specs.AskReading.{Reading, ask_in}
-use Rattle.browse_wire.specs.Reports.{Report, report_in}
+use Rattle.browse_wire.specs.Reports.{Report, report_as, report_in}
+use Rattle.browse_wire.specs.declared.report.ReportCommand as declared_report
 use Rattle.browse_wire.specs.Urls.{Url}
+use Rattle.browse_wire.specs.Faults.{ReadIs}
 use Rattle.browse_wire.specs.declared.fault.BrowseFault.{BrowseFault}
+use Rattle.browse_wire.specs.declared.fault.BrowseFault.TheVariants as fault
+use Rattle.browse_wire.specs.declared.url.SessionUrl.{SessionUrl}
+use Rattle.ra_serve.specs.declared.fault.ServeFault.{ServeFault}
 use Rattle.ra_browse.specs.declared.denial.Denial.{Denial}
+use Rattle.ra_browse.specs.declared.denial.Denial.TheVariants as denial
 use Rattle.ra_browse.specs.declared.stop.Stop.{Stop}
 use Rattle.ra_browse.specs.declared.stop.Stop.TheVariants as stop
 use Rattle.ra_browse.specs.Histories.{Nothing}
@@ -24,7 +32,8 @@ use Rattle.ra_report.specs.Edits.{Edit}
 use Rattle.ra_report.specs.Finishing.{Finishes}
 use Rattle.ra_report.specs.Orders.{awaits_report, order_denied}
 use Rattle.ra_reader.specs.Standings.{Phase, Idle, Reporting, Spoilt, Edited, Standing, Added, standing_at, ready_at, ordered, command_told, behind_command, CommandHas, Said, More, AtEnd, GivenUp, Spoils, said_in, more_said, behind_edit, report_told, behind_report, ReportHas, spoilt_told, behind_spoilt, edit_judged, told_at}
-use Rattle.ra_reader.specs.Takings.{Turned, Turns, Passes}
+use Rattle.ra_reader.specs.Takings.{standing_as, Turned, Turns, Passes}
+use Rattle.ra_reader.specs.declared.phase.Phase as declared_phase
 use Rattle.ra_reader.proofs.Turning.{unadded}
 
 -- ---- whatever is awaited
@@ -33,6 +42,11 @@ use Rattle.ra_reader.proofs.Turning.{unadded}
 pub passes : {P W : Type 0} (repository : P → Option Repository) (refusals : P → ℕ) (contents : W → Option (List ℕ)) (s there : Standing) (item : Item) (old new : P) (out w : W)
     → Passes contents s item out w there → Turns repository refusals contents s item old new out w there
 passes repository refusals contents s there item old new out w h = λ x e. h x (refusals old) (refusals new)
+
+pub passes_ok : {P W : Type 0} (repository : P → Option Repository) (refusals : P → ℕ) (contents : W → Option (List ℕ)) (s : Standing) (u : SessionUrl) (item : Item) (old new : P) (out : W) (result : Result (declared_phase.Phase × W) ServeFault)
+    → IfOk result (λ r. Passes contents s item out r.1 (standing_as u r.0)) → IfOk result (λ r. Turns repository refusals contents s item old new out r.1 (standing_as u r.0))
+passes_ok repository refusals contents s u item old new out (Ok r) h = passes repository refusals contents s (standing_as u r.0) item old new out r.1 h
+passes_ok repository refusals contents s u item old new out (Err f) h = tt
 
 -- what was told is let go out
 pub turns_kept : {P W : Type 0} (repository : P → Option Repository) (refusals : P → ℕ) (contents : W → Option (List ℕ)) (s there : Standing) (item : Item) (old new : P) (out mid w : W)
@@ -48,6 +62,14 @@ turns_kept repository refusals contents s there item old new out mid w t k = λ 
     }
 
 -- ---- a command
+
+-- what is refused for another reason than memory is so read
+pub read_fault : {A T : Type 0} (view : A → T) (f : BrowseFault) (read : Result T BrowseFault) → (f ≡ fault.OutOfMemory → ⊥) → ReadIs view (Err f) read → read ≡ Err f
+read_fault view fault.UnknownCommand read n e = e
+read_fault view fault.BadShape read n e = e
+read_fault view fault.ReplayForm read n e = e
+read_fault view fault.ExcludedDepth read n e = e
+read_fault view fault.OutOfMemory read n e = absurd (n refl)
 
 -- an item that is read so
 turned_asked : (x : Repository) (at : Url) (item : Item) (read : Reading) (a : Added) (rose : Type 0) (before now : Option (List ℕ)) (there : Standing)
@@ -108,11 +130,12 @@ by_order contents at c o item out w k f d a = λ x p n.
     (sym (ap (λ b. if b then standing_at at (ordered c (order_denied at c)) else ready_at (behind at (Ok c))) f ∙ ap (λ r. standing_at at (ordered c r)) d))
 
 -- it is taken
-pub by_taken : {W : Type 0} (contents : W → Option (List ℕ)) (at : Url) (c : Ask) (item : Item) (out w : W)
+pub by_taken : {W : Type 0} (contents : W → Option (List ℕ)) (at : Url) (c : Ask) (rs : List Report) (item : Item) (out w : W)
     → ask_in item ≡ Ok c → awaits_report c ≡ true → order_denied at c ≡ None
     → Appends (contents out) (contents w) (spell authorised)
-    → Passes contents (ready_at at) item out w (standing_at at (Reporting c []))
-by_taken contents at c item out w k f d a = by_order contents at c None item out w k f d a
+    → rs ≡ []
+    → Passes contents (ready_at at) item out w (standing_at at (Reporting c rs))
+by_taken contents at c rs item out w k f d a e = subst (λ s. Passes contents (ready_at at) item out w (standing_at at (Reporting c s))) (sym e) (by_order contents at c None item out w k f d a)
 
 -- it isn't
 pub by_stop : {W : Type 0} (contents : W → Option (List ℕ)) (at : Url) (c : Ask) (s : Stop) (item : Item) (out w : W)
@@ -124,6 +147,27 @@ by_stop contents at c (stop.Port h) item out w k f m t = absurd m
 by_stop contents at c stop.OutOfMemory item out w k f m t = absurd t
 
 -- ---- a report
+
+below : (a n : ℕ) → a < n → nat_lt a n ≡ true
+below a n h = grind (arith, nat_tests)
+
+above : (a n : ℕ) → n ≤ a → nat_lt a n ≡ false
+above a n h = grind (arith, nat_tests)
+
+-- it has room
+pub more_led : (c : Ask) (rs : List Report) (r : Report) → length rs < 65536 → more_said c rs r ≡ Reporting c (rs ++ r ∷ [])
+more_led c rs r h = ap (λ b. if b then Reporting c (rs ++ r ∷ []) else Spoilt denial.Unsupported) (below (length rs) 65536 h)
+
+pub more_kept : (c : Ask) (xs ys : List declared_report.ReportCommand) (r : declared_report.ReportCommand) → ys ≡ xs ++ r ∷ [] → length xs < 65536 → Reporting c (map report_as ys) ≡ more_said c (map report_as xs) (report_as r)
+more_kept c xs ys r e h =
+    let l : length (map report_as xs) < 65536 = subst (λ n. n < 65536) (sym (length-map xs report_as)) h in
+    ap (λ zs. Reporting c (map report_as zs)) e ∙ ap (Reporting c) (map-append report_as xs (r ∷ [])) ∙ sym (more_led c (map report_as xs) (report_as r) l)
+
+-- it has none
+pub more_spoilt : (c : Ask) (xs : List declared_report.ReportCommand) (r : Report) → 65536 ≤ length xs → Spoilt denial.Unsupported ≡ more_said c (map report_as xs) r
+more_spoilt c xs r h =
+    let l : 65536 ≤ length (map report_as xs) = subst (λ n. 65536 ≤ n) (sym (length-map xs report_as)) h in
+    sym (ap (λ b. if b then Reporting c (map report_as xs ++ r ∷ []) else Spoilt denial.Unsupported) (above (length (map report_as xs)) 65536 l))
 
 -- an item that says this
 turned_said : (x : Repository) (at : Url) (c : Ask) (rs : List Report) (item : Item) (s : Said) (a : Added) (rose : Type 0) (before now : Option (List ℕ)) (p : Phase)

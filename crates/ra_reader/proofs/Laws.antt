@@ -1,7 +1,6 @@
 -- Laws of sessions.
 use Rattle.std.proofs.Common.{◌≡◌, ◌≤◌, ◌<◌, ℕ, suc, ◌+◌, Bool, true, false, List, [], ◌∷◌, ◌++◌, length, Option, Some, None, Ok, Err, refl, sym, ap, subst, ◌∙◌, append_assoc, append-nil, length-append, arith}
-use Rattle.std.proofs.lemmas.Bool.Decides.{nat_tests}
-use Rattle.std.specs.Prelude.{nat_lt, if◌then◌else◌}
+use Rattle.std.specs.Prelude.{if◌then◌else◌}
 use Rattle.ra_item.specs.Items.{Item, spell}
 use Rattle.repo_core.specs.Repository.{Repository}
 use Rattle.ra_wire.specs.Replies.{authorised}
@@ -9,8 +8,6 @@ use Rattle.browse_wire.specs.Asks.{Ask}
 use Rattle.browse_wire.specs.AskReading.{Reading, ask_in}
 use Rattle.browse_wire.specs.Reports.{Report, report_in}
 use Rattle.browse_wire.specs.Urls.{Url}
-use Rattle.ra_browse.specs.declared.denial.Denial.{Denial}
-use Rattle.ra_browse.specs.declared.denial.Denial.TheVariants as denial
 use Rattle.ra_browse.specs.Answers.{answer, behind}
 use Rattle.ra_browse.specs.Denials.{unless_denied}
 use Rattle.ra_browse.proofs.Laws.{others_stay, root_behind}
@@ -18,6 +15,7 @@ use Rattle.ra_report.specs.Edits.{finished}
 use Rattle.ra_report.specs.Orders.{awaits_report, order_denied}
 use Rattle.ra_reader.specs.Standings.{Phase, Idle, Reporting, Spoilt, Edited, Standing, Added, standing_at, ready_at, ordered, command_told, behind_command, Said, More, AtEnd, said_in, more_said, report_told, behind_report, told_at, leads_to}
 use Rattle.ra_reader.specs.Sessions.{Turn, answer_to, stands_behind, answers, stands}
+use Rattle.ra_reader.proofs.Exits.{more_led}
 use Rattle.ra_reader.specs.Laws.{IsSingle, AreSingle, single_answers, Say, IsElse}
 
 -- ---- where no report is made
@@ -38,12 +36,6 @@ singles x at (t ∷ ts) h =
     ∙ ap (λ b. answer x at (ask_in t.item) t.added.found t.added.halt ++ b) (singles x (behind at (ask_in t.item)) ts h.1)
 
 -- ---- reports
-
-below : (a n : ℕ) → a < n → nat_lt a n ≡ true
-below a n h = grind (arith, nat_tests)
-
-more_led : (c : Ask) (rs : List Report) (r : Report) → length rs < 65536 → more_said c rs r ≡ Reporting c (rs ++ r ∷ [])
-more_led c rs r h = ap (λ b. if b then Reporting c (rs ++ r ∷ []) else Spoilt denial.Unsupported) (below (length rs) 65536 h)
 
 one_longer : (rs : List Report) (r : Report) → length (rs ++ r ∷ []) ≡ length rs + 1
 one_longer rs r = length-append rs (r ∷ [])

@@ -7,7 +7,7 @@ use Rattle.ra_wire.specs.Replies.{answer_of, authorised, done, failure}
 use Rattle.browse_wire.specs.Asks.{Ask}
 use Rattle.browse_wire.specs.AskReading.{Reading, ask_in}
 use Rattle.browse_wire.specs.Reports as reports
-use Rattle.browse_wire.specs.Reports.{Report, SetPath, DeletePath, LinkPath, FinishReport, AbortReport, report_in}
+use Rattle.browse_wire.specs.Reports.{Report, Reported, SetPath, DeletePath, LinkPath, FinishReport, AbortReport, report_in}
 use Rattle.browse_wire.specs.Urls.{Url}
 use Rattle.ra_serve.specs.declared.fault.PortFault.{PortFault}
 use Rattle.ra_browse.specs.declared.denial.Denial.{Denial}
@@ -69,10 +69,15 @@ pub data Said : Type 0 where
   GivenUp : Said
   Spoils : Denial → Said
 
+-- a lock's token isn't kept
+abbrev pub without_token : Reported → Reported
+without_token r = record { path = r.path; revision = r.revision; start_empty = r.start_empty; token = None; depth = r.depth }
+
+-- a path that stands as another URL's isn't taken
 abbrev pub said_in : reports.Reading → Said
-said_in (Ok (SetPath r)) = More (SetPath r)
+said_in (Ok (SetPath r)) = More (SetPath (without_token r))
 said_in (Ok (DeletePath p)) = More (DeletePath p)
-said_in (Ok (LinkPath r url)) = More (LinkPath r url)
+said_in (Ok (LinkPath r url)) = Spoils denial.Unsupported
 said_in (Ok FinishReport) = AtEnd
 said_in (Ok AbortReport) = GivenUp
 said_in (Err f) = Spoils (no_ask f)

@@ -1,13 +1,8 @@
 //! What readers ask, and what they are told.
 
-use crate::sessions::{
-    GREETING, MECHANISMS, ROOT, WELCOME, are_answered, none_is_wrong, opening, rest_behind, run,
-};
-use crate::site::site;
+use crate::sessions::{ROOT, are_answered, first_told_else, none_is_wrong};
 use ra_browse::{Denial, law};
 use ra_reader::law as session_law;
-use std::alloc::Global;
-use std::process::Abort;
 use std::rt::HostRuntime;
 
 // What stands at a path.
@@ -194,8 +189,8 @@ const UNANSWERED: [(&[u8], &[u8]); 5] = [
         b"( failure ( ( 200007 13:not supported 0: 0 ) ) ) ",
     ),
     (
-        b"( update ( ( 3 ) 0: true infinity false false ) ) ",
-        b"( failure ( ( 200007 13:not supported 0: 0 ) ) ) ",
+        b"( set-path ( 0: 3 false ( ) infinity ) ) ",
+        b"( failure ( ( 210001 15:unknown command 0: 0 ) ) ) ",
     ),
     (
         b"( change-rev-prop ( 1 7:svn:log 3:new ) ) ",
@@ -207,35 +202,9 @@ const UNANSWERED: [(&[u8], &[u8]); 5] = [
     ),
 ];
 
-// What a session tells behind its opening where this is asked.
-fn told(rt: &impl Abort, alloc: Global, asked: &[u8]) -> Vec<u8> {
-    let mut port = site(rt, alloc);
-    let mut sent = opening(rt, alloc, ROOT);
-    sent.extend_from_slice(asked).expect(rt, "memory");
-    let ended = run(alloc, &mut port, &sent, sent.len(), u64::MAX);
-    match rest_behind(ended.told.as_slice(), &[GREETING, MECHANISMS, WELCOME]) {
-        Some(rest) => Vec::from_slice(alloc, rest).expect(rt, "memory"),
-        None => Vec::new(alloc),
-    }
-}
-
-// The first of these that is told another thing.
-fn first_answered<'a>(
-    rt: &impl Abort,
-    alloc: Global,
-    rows: &'a [(&'a [u8], &'a [u8])],
-) -> Option<&'a [u8]> {
-    for row in rows {
-        if told(rt, alloc, row.0).as_slice() != row.1 {
-            return Some(row.0);
-        }
-    }
-    None
-}
-
 #[test]
 fn what_is_not_answered(rt: HostRuntime) {
-    none_is_wrong(&rt, first_answered(&rt, rt.alloc(), &UNANSWERED));
+    none_is_wrong(&rt, first_told_else(&rt, rt.alloc(), ROOT, &UNANSWERED));
 }
 
 #[test]
@@ -248,5 +217,8 @@ fn numbers_and_texts(rt: HostRuntime) {
 fn laws(_rt: HostRuntime) {
     law::stat_is_the_node();
     law::only_reparent_moves();
+    session_law::singles_are_answered();
+    session_law::reports_are_whole();
+    session_law::only_reparent_leads();
     session_law::stands_below_one_root();
 }

@@ -1,5 +1,5 @@
-//! Tests of `ra_reader` and `ra_browse` through their public items: what a session of a reader answers, beside what Subversion's own
-//! `svnserve` of version 1.14.2 answered of the same repository, openings, and streams that fail.
+//! Tests of `ra_reader` and `ra_browse` through their public items: what a session of a reader answers, beside what
+//! Subversion's own `svnserve` of version 1.14.2 answered of the same repository, openings, reports, and streams that fail.
 //!
 //! Of an answer of `svnserve` the tables change two things that no client decides by: properties and entries stand in the
 //! order of their names, and a failure has this crate's text.
@@ -17,6 +17,8 @@ mod history_tests;
 mod opening_tests;
 #[cfg(test)]
 mod place_tests;
+#[cfg(test)]
+mod report_tests;
 #[cfg(test)]
 mod sessions;
 #[cfg(test)]

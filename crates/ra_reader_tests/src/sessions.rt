@@ -22,8 +22,8 @@ pub(crate) const MECHANISMS: &[u8] =
 pub(crate) const WELCOME: &[u8] = b"( success ( ) ) \
     ( success ( 36:6a1f0c3e-0000-4000-8000-0000000000b7 20:svn://127.0.0.1:3690 ( ) ) ) ";
 
-// What stands before the answer to a command.
-const AUTHORISED: &[u8] = b"( success ( ( ) 0: ) ) ";
+/// What stands before the answer to a command.
+pub(crate) const AUTHORISED: &[u8] = b"( success ( ( ) 0: ) ) ";
 
 /// A reader that gives so many bytes at a time.
 #[derive(Drop)]
@@ -153,6 +153,33 @@ pub(crate) fn are_answered<'a>(
     let sent = asking(rt, alloc, url, rows);
     none_is_wrong(rt, first_wrong(rt, alloc, &sent, sent.len(), rows));
     none_is_wrong(rt, first_wrong(rt, alloc, &sent, 1, rows));
+}
+
+/// What a session at a URL tells behind its opening where this is asked.
+pub(crate) fn told_at(rt: &impl Abort, alloc: Global, url: &[u8], asked: &[u8]) -> Vec<u8> {
+    let mut port = site(rt, alloc);
+    let mut sent = opening(rt, alloc, url);
+    sent.extend_from_slice(asked).expect(rt, "memory");
+    let ended = run(alloc, &mut port, &sent, sent.len(), u64::MAX);
+    match rest_behind(ended.told.as_slice(), &[GREETING, MECHANISMS, WELCOME]) {
+        Some(rest) => Vec::from_slice(alloc, rest).expect(rt, "memory"),
+        None => Vec::new(alloc),
+    }
+}
+
+/// The first of these that a session at a URL tells another thing.
+pub(crate) fn first_told_else<'a>(
+    rt: &impl Abort,
+    alloc: Global,
+    url: &[u8],
+    rows: &'a [(&'a [u8], &'a [u8])],
+) -> Option<&'a [u8]> {
+    for row in rows {
+        if told_at(rt, alloc, url, row.0).as_slice() != row.1 {
+            return Some(row.0);
+        }
+    }
+    None
 }
 
 /// Ends the test with what is wrong, if anything is.
