@@ -6,9 +6,10 @@
 //! `specs/Answers` has what each command is denied and told.
 #![tactic(auto)]
 
+pub use ask::tree_asked;
 pub use denial::Denial;
 pub use pieces::{write_end, write_name};
-pub use stop::Stop;
+pub use stop::{Stop, stopped};
 pub use told::{deny, tell, write_denied};
 
 pub mod answer;
