@@ -24,7 +24,7 @@ use crate::phase::Phase;
 use crate::take::take;
 use browse_wire::url::{SessionUrl, UrlFault};
 use byte_streams::Input;
-use ra_browse::{write_end, write_name};
+use ra_browse::{write_end, write_name, write_none};
 use ra_item::fault::{ItemFault, NextFault};
 use ra_item::item::Item;
 use ra_item::stream::ItemStream;
@@ -161,14 +161,6 @@ fn write_versions<W: Write>(out: &mut W, name: &[u8], capability: &[u8]) -> io::
     write_none(out)?;
     write_one(out, capability)?;
     write_end(out)
-}
-
-// Brackets without anything.
-fn write_none<W: Write>(out: &mut W) -> io::Result<()>
-    ensures { OnOk result (Appends (W.contents out.old) (W.contents out.new) (spell (list []))) }
-{
-    write_open(out)?;
-    write_close(out)
 }
 
 // A word in brackets.
