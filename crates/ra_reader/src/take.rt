@@ -91,7 +91,7 @@ fn follow<P: RepoPort, W: Write + Drop>(
     ensures stays { PortStays P.repository P.refusals P.is_mirror port.old port.new }
 {
     if awaits_report(&command) {
-        return take_order(alloc, port, place, command, out);
+        return take_order(alloc, place, command, out);
     }
     let out = command_answer(alloc, port, place, &command, out)?;
     Ok((Phase::Idle, out))
