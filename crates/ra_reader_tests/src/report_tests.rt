@@ -132,13 +132,13 @@ fn edits_and_what_clients_say_of_them(rt: HostRuntime) {
     none_is_wrong(&rt, first_unframed(&rt, rt.alloc()));
 }
 
-// A report with so many commands behind its first one, which all report one thing.
-fn long_report(rt: &impl Abort, alloc: Global, behind: usize) -> Vec<u8> {
-    let order = b"( update ( ( 3 ) 0: true unknown false false ) ) ( set-path ( 0: 3 false ( ) infinity ) ) ";
+// A report of so many commands, none of which is of the folder.
+fn long_report(rt: &impl Abort, alloc: Global, commands: usize) -> Vec<u8> {
+    let order = b"( update ( ( 3 ) 0: true unknown false false ) ) ";
     let mut asked = Vec::from_slice(alloc, order).expect(rt, "memory");
-    for _ in 0..behind {
+    for _ in 0..commands {
         asked
-            .extend_from_slice(b"( delete-path ( 5:lib/x ) ) ")
+            .extend_from_slice(b"( delete-path ( 1:x ) ) ")
             .expect(rt, "memory");
     }
     asked
@@ -150,10 +150,10 @@ fn long_report(rt: &impl Abort, alloc: Global, behind: usize) -> Vec<u8> {
 #[test]
 fn a_report_has_a_limit(rt: HostRuntime) {
     let alloc = rt.alloc();
-    let url = b"svn://127.0.0.1:3690/trunk";
-    let denied = b"( success ( ( ) 0: ) ) ( failure ( ( 200007 13:not supported 0: 0 ) ) ) ".as_slice();
-    let told = told_at(&rt, alloc, url, &long_report(&rt, alloc, 65_535));
-    assert!(rt; told.as_slice() != denied);
-    let told = told_at(&rt, alloc, url, &long_report(&rt, alloc, 65_536));
-    assert!(rt; told.as_slice() == denied);
+    let told = told_at(&rt, alloc, ROOT, &long_report(&rt, alloc, 65_536));
+    let taken = b"( success ( ( ) 0: ) ) ( failure ( ( 165004 19:bad revision report 0: 0 ) ) ) ";
+    assert!(rt; told.as_slice() == taken.as_slice());
+    let told = told_at(&rt, alloc, ROOT, &long_report(&rt, alloc, 65_537));
+    let denied = b"( success ( ( ) 0: ) ) ( failure ( ( 200007 13:not supported 0: 0 ) ) ) ";
+    assert!(rt; told.as_slice() == denied.as_slice());
 }
