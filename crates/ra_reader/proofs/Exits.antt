@@ -1,15 +1,18 @@
 -- An item, as it was taken in each phase.
 use Rattle.std.proofs.Common.{◌≡◌, ◌≤◌, ◌<◌, ◌⊎◌, inl, ℕ, Bool, true, false, true≢false, List, [], ◌∷◌, ◌++◌, length, map, nat_lt, Option, Some, None, Result, Ok, Err, refl, sym, ap, subst, ◌∙◌, arith}
-use Rattle.std.proofs.KnownBytes.{Appends-nil, Appends-kept}
+use Rattle.std.proofs.KnownBytes.{Appends-nil, Appends-trans, Appends-kept}
 use Rattle.std.proofs.lemmas.Bool.Decides.{nat_tests}
 use Rattle.std.proofs.lemmas.List.{length-map, map-append}
-use Rattle.std.specs.Prelude.{is_some, IfOk, if◌then◌else◌}
+use Rattle.std.specs.Prelude.{is_some, codes, IfOk, OnOk, if◌then◌else◌}
+use Rattle.std.specs.List.{slice_get}
 use Rattle.std.specs.Io.KnownBytes.{Appends, Keeps}
 use Rattle.fleet_disk.specs.Rules.{Rose}
 use Rattle.ra_item.specs.Items.{Item, spell}
 use Rattle.repo_core.specs.Repository.{Repository}
-use Rattle.ra_wire.specs.Answers.{reply_in}
-use Rattle.ra_wire.specs.Replies.{authorised, done}
+use Rattle.ra_wire.specs.Answers.{Failure, reply_in, refused_as}
+use Rattle.ra_wire.specs.Replies as replies
+use Rattle.ra_wire.specs.Replies.{before, authorised, done}
+use Rattle.ra_wire.specs.declared.reply.Refused as declared_reply
 use Rattle.browse_wire.specs.Asks.{Ask, Plain, Stat, Log, Locations, Segments, FileRevs, Reparent, GetLock, GetLocks, Update, Switch, Status, Diff}
 use Rattle.browse_wire.specs.AskReading.{Reading, ask_in}
 use Rattle.browse_wire.specs.Reports.{Report, report_as, report_in}
@@ -20,6 +23,7 @@ use Rattle.browse_wire.specs.declared.fault.BrowseFault.{BrowseFault}
 use Rattle.browse_wire.specs.declared.fault.BrowseFault.TheVariants as fault
 use Rattle.browse_wire.specs.declared.url.SessionUrl.{SessionUrl}
 use Rattle.ra_serve.specs.declared.fault.ServeFault.{ServeFault}
+use Rattle.ra_serve.proofs.Causes.{none_is_not}
 use Rattle.ra_browse.specs.declared.denial.Denial.{Denial}
 use Rattle.ra_browse.specs.declared.denial.Denial.TheVariants as denial
 use Rattle.ra_browse.specs.declared.stop.Stop.{Stop}
@@ -31,7 +35,7 @@ use Rattle.ra_browse.specs.Tellings.{Answers, Denies, TellsStop}
 use Rattle.ra_report.specs.Edits.{Edit}
 use Rattle.ra_report.specs.Finishing.{Finishes}
 use Rattle.ra_report.specs.Orders.{awaits_report, order_denied}
-use Rattle.ra_reader.specs.Standings.{Phase, Idle, Reporting, Spoilt, Edited, Standing, Added, standing_at, ready_at, ordered, command_told, behind_command, CommandHas, Said, More, AtEnd, GivenUp, Spoils, said_in, more_said, behind_edit, report_told, behind_report, ReportHas, spoilt_told, behind_spoilt, edit_judged, told_at}
+use Rattle.ra_reader.specs.Standings.{Phase, Idle, Reporting, Spoilt, Edited, Standing, Added, standing_at, ready_at, ordered, command_told, behind_command, CommandHas, Said, More, AtEnd, GivenUp, Spoils, said_in, more_said, behind_edit, report_told, behind_report, ReportHas, spoilt_told, behind_spoilt, abort_edit, edit_judged, told_at}
 use Rattle.ra_reader.specs.Takings.{standing_as, Turned, Turns, Passes}
 use Rattle.ra_reader.specs.declared.phase.Phase as declared_phase
 use Rattle.ra_reader.proofs.Turning.{unadded}
@@ -126,7 +130,7 @@ by_order : {W : Type 0} (contents : W → Option (List ℕ)) (at : Url) (c : Ask
 by_order contents at c o item out w k f d a = λ x p n.
     turned_asked x at item (Ok c) unadded (Rose p n) (contents out) (contents w) (standing_at at (ordered c o)) k (finds_none x at c f, tt) (inl tt)
     (subst (λ b. Appends (contents out) (contents w) (if b then unless_denied (order_denied at c) (spell authorised) else answer x at (Ok c) Nothing None)) (sym f)
-      (subst (λ r. Appends (contents out) (contents w) (unless_denied r (spell authorised))) (sym d) a))
+    (subst (λ r. Appends (contents out) (contents w) (unless_denied r (spell authorised))) (sym d) a))
     (sym (ap (λ b. if b then standing_at at (ordered c (order_denied at c)) else ready_at (behind at (Ok c))) f ∙ ap (λ r. standing_at at (ordered c r)) d))
 
 -- it is taken
@@ -238,3 +242,13 @@ pub by_reply : {W : Type 0} (contents : W → Option (List ℕ)) (at : Url) (ite
     → Appends (contents out) (contents w) (edit_judged (reply_in item))
     → Passes contents (standing_at at Edited) item out w (ready_at at)
 by_reply contents at item out w b = λ x m n. record { added = unadded; has = tt; counted = inl tt; bytes = b; led = refl }
+
+-- a name without content
+pub only_named : {A E : Type 0} (result : Result A E) (a b c : Option (List ℕ)) → Appends a b (before (codes "abort-edit")) → OnOk result (Appends b c replies.behind) → OnOk result (Appends a c (spell abort_edit))
+only_named (Ok u) a b c p q = Appends-trans a b c (before (codes "abort-edit")) replies.behind p q
+only_named (Err f) a b c p q = tt
+
+-- a failure without a cause
+pub nothing_first : (fs : List declared_reply.Refused) → None ≡ slice_get fs 0 → edit_judged (Some (Failure (map refused_as fs))) ≡ spell abort_edit ++ denied denial.BadShape
+nothing_first [] e = refl
+nothing_first (f ∷ fs) e = absurd (none_is_not f e)

@@ -1,5 +1,5 @@
 -- Laws of sessions.
-use Rattle.std.specs.Prelude.{◌≡◌, ◌≤◌, ℕ, List, [], ◌∷◌, ◌++◌, length, None, Ok}
+use Rattle.std.specs.Prelude.{◌≡◌, ◌≤◌, ℕ, false, List, [], ◌∷◌, ◌++◌, length, Ok, Err}
 use Rattle.repo_core.specs.Repository.{Repository}
 use Rattle.browse_wire.specs.Asks.{Ask}
 use Rattle.browse_wire.specs.AskReading.{Reading, ask_in}

@@ -8,6 +8,8 @@ ghost use Rattle.ra_wire.specs.Replies.{done, failure};
 ghost use Rattle.browse_wire.specs.Asks.{ask_as};
 ghost use Rattle.browse_wire.specs.AskReading.{ask_in};
 ghost use Rattle.browse_wire.specs.Reports.{report_as, report_in};
+ghost use Rattle.ra_browse.specs.declared.denial.Denial.TheVariants.{BadShape};
+ghost use Rattle.ra_browse.specs.Denials.{denied};
 ghost use Rattle.ra_browse.specs.Tellings.{place_as, PortStays};
 ghost use Rattle.ra_report.specs.Edits.{Edit};
 ghost use Rattle.ra_report.specs.Orders.{awaits_report};
@@ -177,7 +179,14 @@ fn take_end<P: RepoPort, W: Write + Drop>(
         W.contents (reporting_as place.now order) item port.old port.new out r.1 (standing_as place.now r.0)) }
     ensures stays { PortStays P.repository P.refusals P.is_mirror port.old port.new }
 {
-    match finish(alloc, port, place, &order.command, order.said.as_slice(), out) {
+    match finish(
+        alloc,
+        port,
+        place,
+        &order.command,
+        order.said.as_slice(),
+        out,
+    ) {
         Ok((out, sent)) => Ok((behind_edit(sent), out)),
         Err(fault) => Err(fault),
     }
@@ -202,7 +211,7 @@ fn take_spoilt<W: Write + Drop>(
         out r.1 (standing_as place.now r.0)) }
 {
     match said_by(alloc, item) {
-        Ok(Said::More(_)) => Ok((Phase::Spoilt(why), out)),
+        Ok(Said::More(_report)) => Ok((Phase::Spoilt(why), out)),
         Ok(Said::AtEnd) => {
             let out = deny(why, out)?;
             Ok((Phase::Idle, out))
@@ -211,7 +220,7 @@ fn take_spoilt<W: Write + Drop>(
             let out = done(out)?;
             Ok((Phase::Idle, out))
         }
-        Ok(Said::Spoils(_)) => Ok((Phase::Spoilt(why), out)),
+        Ok(Said::Spoils(_other)) => Ok((Phase::Spoilt(why), out)),
         Err(fault) => Err(fault),
     }
 }
@@ -237,7 +246,7 @@ fn judge<W: Write + Drop>(alloc: Global, item: Item, out: W) -> Result<W, ServeF
     match Reply::parse(alloc, item) {
         Ok(Reply::Success(_)) => done(out),
         Ok(Reply::Failure(refused)) => tell_back(refused.as_slice(), out),
-        Err(WireFault::BadShape) => give_up(Denial::BadShape.number(), Denial::BadShape.text(), out),
+        Err(WireFault::BadShape) => other_reply(out),
         Err(_) => Err(ServeFault::OutOfMemory),
     }
 }
@@ -249,8 +258,17 @@ fn tell_back<W: Write + Drop>(refused: &[Refused], out: W) -> Result<W, ServeFau
 {
     match refused.first() {
         Some(first) => give_up(first.number, first.text.as_slice(), out),
-        None => give_up(Denial::BadShape.number(), Denial::BadShape.text(), out),
+        None => other_reply(out),
     }
+}
+
+// An edit of which the client says another thing.
+fn other_reply<W: Write + Drop>(out: W) -> Result<W, ServeFault>
+    ensures { IfOk result (λ w. Appends (W.contents out) (W.contents w) (spell abort_edit ++ denied BadShape)) }
+{
+    let mut out = out;
+    write_abort(&mut out)?;
+    deny(Denial::BadShape, out)
 }
 
 // An edit that wasn't applied.

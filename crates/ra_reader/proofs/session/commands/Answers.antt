@@ -27,7 +27,7 @@ pub loop-preserved : goal.loop-preserved
 loop-preserved g c =
     let i = c.loop.invariant in (
       (λ x e. going_more x _ _ _ _ _ _ _ _ _ _ _ _ _ _ _ c.in-Ok-Some.item c.turn.ensures.stays.goes.later (i.0 x e) (subst (λ o. Answers g.I.Input.remaining g.I.Input.failures g.I.Input.reads c.loop.items c.next.new.self (Ok o)) c.in-Ok-Some.field-0-is c.in-Ok-Some.ensures.answer)
-          (c.in_ok-sent-in-Ok-Some.ensures.told x (i.1.repository ∙ e)) c.in_ok-sent-in-Ok-Some.ensures.moved),
+          (c.in_ok-next-in-Ok-Some.ensures.told x (i.1.repository ∙ e))),
       stays_join _ _ _ _ _ _ _ _ _ i.1 c.turn.ensures.stays,
       (λ s. absurd (true≢false (sym s ∙ c.in-Ok-Some.ensures.goes_on))),
       omega (arith, i.3, c.next.ensures.failures),

@@ -12,4 +12,4 @@ pub returns-in_ok-out-in-Err-clause-told : goal.returns-in_ok-out-in-Err-clause-
 returns-in_ok-out-in-Err-clause-told g c =
     passes g.P.RepoPort.repository g.P.RepoPort.refusals g.W.Write.contents (ready_at (place_as c.args.place.now)) (ready_at (place_as c.args.place.now)) c.args.item c.args.port.now c.args.port.now c.args.out c.in_ok-out-in-Err.out
     (by_fault g.W.Write.contents (place_as c.args.place.now) c.in-Err.fault c.in_ok-why-in-Err.why c.args.item c.args.out c.in_ok-out-in-Err.out
-      (read_fault ask_as c.in-Err.fault (ask_in c.args.item) c.in_ok-why-in-Err.ensures.known c.in-Err.ensures.read) c.in_ok-why-in-Err.ensures.denial c.in_ok-out-in-Err.ensures)
+    (read_fault ask_as c.in-Err.fault (ask_in c.args.item) c.in_ok-why-in-Err.ensures.known c.in-Err.ensures.read) c.in_ok-why-in-Err.ensures.denial c.in_ok-out-in-Err.ensures)
