@@ -8,9 +8,12 @@
 //! `served` of [`browse`] is on these.
 #![tactic(auto)]
 
+pub use ask::tree_asked;
 pub use counted::browse_to;
 pub use denial::Denial;
 pub use session::browse;
+pub use stop::{Stop, stopped};
+pub use told::tell;
 
 mod answer;
 mod ask;

@@ -28,16 +28,15 @@ use tree_changes::changes_between;
 pub fn send_update<W: Write + Drop>(
     alloc: Global,
     reported: &Tree,
-    wanted: &Tree,
     facts: &Facts<'_>,
     out: W,
 ) -> Result<W, EditorFault>
-    ensures sent { IfOk result (IsUpdate W.contents reported.now wanted.now facts.now out) }
-    ensures refused { IfErr result (MayStop reported.now wanted.now) }
+    ensures sent { IfOk result (IsUpdate W.contents reported.now facts.now out) }
+    ensures refused { IfErr result (MayStop reported.now facts.now.target.now) }
 {
     // For the proof: where changes have no fault, the calls that they are driven as have their effect.
     editor_ends::law::drive_has_the_effect();
-    let changes = changes_between(alloc, reported, wanted)?;
+    let changes = changes_between(alloc, reported, facts.target)?;
     send_over(alloc, reported, changes.as_slice(), facts, out)
 }
 
