@@ -9,7 +9,7 @@ ghost use Rattle.ra_report.specs.Orders.{wanted_denied};
 ghost use Rattle.ra_report.specs.Plans.{IsWanted};
 
 use crate::plan::Wanted;
-use node_base::NodePath;
+use node_base::{NodePath, RevNo};
 use path_tree::Tree;
 use ra_browse::{Denial, Stop, stopped, tree_asked};
 use ra_serve::RepoPort;
@@ -27,11 +27,23 @@ pub fn wanted<P: RepoPort>(
         (λ x w. IsWanted x revision folder.now w) port.old port.new result }
     ensures stays { PortStays P.repository P.refusals P.is_mirror port.old port.new }
 {
-    let (number, tree) = match tree_asked(port, revision) {
-        Ok(asked) => asked,
-        Err(fault) => return Err(stopped(fault)),
-    };
-    match tree_at(alloc, &tree, folder) {
+    match tree_asked(port, revision) {
+        Ok((number, tree)) => wanted_in(alloc, number, &tree, folder),
+        Err(fault) => Err(stopped(fault)),
+    }
+}
+
+// The same of its tree.
+fn wanted_in(
+    alloc: Global,
+    number: RevNo,
+    tree: &Tree,
+    folder: &NodePath,
+) -> Result<Wanted, Stop>
+    ensures { Decides (dir_denied (finite.get tree.now folder.now))
+        (λ w. (w.number ≡ number) × ((q : Path) → finite.get w.tree q ≡ finite.get tree.now (folder.now ++ q))) result }
+{
+    match tree_at(alloc, tree, folder) {
         Ok(tree) => Ok(Wanted { number, tree }),
         Err(stop) => Err(stop),
     }

@@ -1,10 +1,13 @@
 //! What a working copy reports.
 
-ghost use Rattle.std.specs.Prelude.{◌≡◌, map, None, if◌then◌else◌};
+ghost use Rattle.std.specs.Prelude.{◌≡◌, map, Some, None, if◌then◌else◌};
+ghost use Rattle.std.specs.Option.{option_or};
 ghost use Rattle.node_base.specs.Path.{Path};
 ghost use Rattle.tree_reports.specs.Reports.{content_at};
 ghost use Rattle.browse_wire.specs.Reports.{report_as, reported_as, SetPath};
-ghost use Rattle.ra_browse.specs.Answers.{dir_denied};
+ghost use Rattle.ra_serve.specs.Answers.{node_in};
+ghost use Rattle.ra_serve.specs.Ports.{tree_of};
+ghost use Rattle.ra_browse.specs.Answers.{dir_denied, no_revision};
 ghost use Rattle.ra_browse.specs.Tellings.{place_as, Decides, Finds, PortStays};
 ghost use Rattle.std.specs.FinMap as finite;
 ghost use Rattle.ra_report.specs.Plans.{IsCopy};
@@ -16,7 +19,7 @@ use crate::plan::WorkingCopy;
 use crate::take::{shallow_denied, take};
 use browse_wire::report::{ReportCommand, Reported};
 use browse_wire::url::SessionUrl;
-use node_base::NodePath;
+use node_base::{NodePath, RevNo};
 use path_tree::Tree;
 use ra_browse::{Denial, Stop, stopped, tree_asked};
 use ra_serve::RepoPort;
@@ -81,11 +84,40 @@ fn begun_by<P: RepoPort>(
     if let Some(why) = shallow_denied(path.depth) {
         return Err(Stop::Denied(why));
     }
-    let (base, tree) = match tree_asked(port, Some(path.revision)) {
-        Ok(asked) => asked,
-        Err(fault) => return Err(stopped(fault)),
-    };
-    match begun_in(alloc, &tree, folder, path.start_empty) {
+    begun_at(alloc, port, folder, path.revision, path.start_empty)
+}
+
+// The same by a revision.
+fn begun_at<P: RepoPort>(
+    alloc: Global,
+    port: &mut P,
+    folder: &NodePath,
+    revision: u64,
+    empty: bool,
+) -> Result<WorkingCopy, Stop>
+    ensures found { Finds P.repository P.refusals (λ x. option_or (no_revision x revision)
+        (if empty then None else dir_denied (node_in x revision folder.now)))
+        (λ x c. IsCopy (begun empty (tree_of x revision) folder.now) (Some revision) c) port.old port.new result }
+    ensures stays { PortStays P.repository P.refusals P.is_mirror port.old port.new }
+{
+    match tree_asked(port, Some(revision)) {
+        Ok((base, tree)) => begun_with(alloc, base, &tree, folder, empty),
+        Err(fault) => Err(stopped(fault)),
+    }
+}
+
+// The same with the revision's tree.
+fn begun_with(
+    alloc: Global,
+    base: RevNo,
+    tree: &Tree,
+    folder: &NodePath,
+    empty: bool,
+) -> Result<WorkingCopy, Stop>
+    ensures { Decides (if empty then None else dir_denied (finite.get tree.now folder.now))
+        (λ c. (c.base ≡ base) × ((q : Path) → content_at c.report q ≡ begun empty tree.now folder.now q)) result }
+{
+    match begun_in(alloc, tree, folder, empty) {
         Ok(report) => Ok(WorkingCopy { report, base }),
         Err(stop) => Err(stop),
     }
