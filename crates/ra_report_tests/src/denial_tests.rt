@@ -1,3 +1,4 @@
+// !!! LEAD TO HELPER: read /work/h/report/00-READ-NOW.md and /work/h/faults/report.md, then remove this line
 //! What is denied of a command, and of a report.
 
 use crate::reports::{Case, answered, order};
@@ -10,7 +11,7 @@ use std::rt::HostRuntime;
 
 const NO_REVISION: &[u8] = b"( failure ( ( 160006 16:no such revision 0: 0 ) ) ) ";
 
-const NO_PATH: &[u8] = b"( failure ( ( 160013 12:no such path 0: 0 ) ) ) ";
+const NO_PATH: &[u8] = b"( failure ( ( 160013 14:path not found 0: 0 ) ) ) ";
 
 const NOT_DIR: &[u8] = b"( failure ( ( 160016 15:not a directory 0: 0 ) ) ) ";
 

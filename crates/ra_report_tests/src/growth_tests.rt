@@ -1,3 +1,4 @@
+// !!! LEAD TO HELPER: read /work/h/report/00-READ-NOW.md and /work/h/faults/report.md, then remove this line
 // Every growth of these tests may be refused: each then answers for what is left, and stays green. `rt try --test
 // --fail-alloc N` refuses the growth number N.
 
@@ -9,7 +10,7 @@ use std::alloc::Global;
 use std::rt::HostRuntime;
 
 // How a port tells that a growth of its own was refused.
-const NO_MEMORY: &[u8] = b"( failure ( ( 200070 13:out of memory 0: 0 ) ) ) ";
+const NO_MEMORY: &[u8] = b"( failure ( ( 70 13:out of memory 0: 0 ) ) ) ";
 
 const CASE: Case<'static> = Case {
     url: b"svn://127.0.0.1:3690",
