@@ -28,7 +28,7 @@ use Rattle.ra_report.proofs.Calls.{then_decides}
 
 -- ---- why a path isn't taken
 
-denial_of : ReportError → Denial
+abbrev denial_of : ReportError → Denial
 denial_of error.Root = denial.BadReport
 denial_of error.NoFolder = denial.BadReport
 denial_of error.NotThere = denial.NoPath

@@ -46,7 +46,7 @@ some_of None P h = absurd h
 some_of (Some x) P h = refl
 
 -- by what stood and what stands there
-IsTold : Option Node → Option Node → Bool → Told → Type 0
+abbrev IsTold : Option Node → Option Node → Bool → Told → Type 0
 IsTold o u b Removed = IsSome o × (b ≡ false)
 IsTold o u b (Added y) = (o ≡ None) × (u ≡ Some y)
 IsTold o u b (Replaced y) = IsSome o × (u ≡ Some y)
@@ -149,9 +149,6 @@ goes_same d e (n ∷ p) h = λ i. takes_below (h [] n p refl i) || goes_same (λ
 
 -- ---- the fault of one change
 
-none_fault : (a b c d e f : Option TreeFault) → a ≡ None → b ≡ None → c ≡ None → d ≡ None → e ≡ None → f ≡ None → first_of (a ∷ b ∷ c ∷ d ∷ e ∷ f ∷ []) ≡ None
-none_fault a b c d e f p q r s t u = λ i. first_of (p i ∷ q i ∷ r i ∷ s i ∷ t i ∷ u i ∷ [])
-
 and_false : (b : Bool) → fault_if (b && false) BadPath ≡ None
 and_false true = refl
 and_false false = refl
@@ -182,11 +179,11 @@ module _ (f g : Path → Option Node) (hf : HasFronts f) (hg : HasFronts g) (df 
   says : IsTold (f p) (g p) (is_some (blocked g p)) t
   says = told_is (f p) (g p) (is_some (blocked g p)) t is
 
-  open : is_some (blocked g p) ≡ false
-  open = open_at g hg p (f p) t says
+  is_open : is_some (blocked g p) ≡ false
+  is_open = open_at g hg p (f p) t says
 
   unblocked : blocked now p ≡ None
-  unblocked = none_of (blocked now p) (blocked_same now g p before.fronts ∙ open)
+  unblocked = none_of (blocked now p) (blocked_same now g p before.fronts ∙ is_open)
 
   stood : option_map content (now p) ≡ option_map content (f p)
   stood = by (f p) refl
@@ -197,7 +194,7 @@ module _ (f g : Path → Option Node) (hf : HasFronts f) (hg : HasFronts g) (df 
 
       by : (o : Option Node) → f p ≡ o → option_map content (now p) ≡ option_map content (f p)
       by None e = before.here ∙ ap (λ o. cond (goes_with (told_at f g) p) None (option_map content o)) e ∙ none_either (goes_with (told_at f g) p) ∙ sym (ap (option_map content) e)
-      by (Some x) e = before.here ∙ ap (λ b. cond b None (option_map content (f p))) (stays f g hf p (some_there (f p) x e) open)
+      by (Some x) e = before.here ∙ ap (λ b. cond b None (option_map content (f p))) (stays f g hf p (some_there (f p) x e) is_open)
 
   there : is_some (now p) ≡ is_some (f p)
   there = sym (some_content (now p)) ∙ ap is_some stood ∙ some_content (f p)
@@ -214,10 +211,26 @@ module _ (f g : Path → Option Node) (hf : HasFronts f) (hg : HasFronts g) (df 
   no_fault = by t says (not_root f g p t df dg is)
     where
       by : (v : Told) → IsTold (f p) (g p) (is_some (blocked g p)) v → (settled v ≡ true → same_path p [] ≡ false) → fault_of trees now (told_change p v) ≡ None
-      by Removed k root = none_fault _ _ _ _ _ _ (ap (λ b. fault_if (b && true) BadPath) (root refl)) unblocked (ap (λ b. fault_if (not b) NoSuchPath) (there ∙ k.0)) refl (ap (λ b. fault_if b KindMismatch) (no_mismatch (option_map kind_of (now p)))) refl
-      by (Added y) k root = none_fault _ _ _ _ _ _ (ap (λ b. fault_if (b && true) BadPath) (root refl)) unblocked (ap (λ b. fault_if b PathThere) (there ∙ ap is_some k.0)) refl (ap (λ b. fault_if b KindMismatch) (own_kind y.text)) refl
-      by (Replaced y) k root = none_fault _ _ _ _ _ _ (ap (λ b. fault_if (b && true) BadPath) (root refl)) unblocked (ap (λ b. fault_if (not b) NoSuchPath) (there ∙ k.0)) refl (ap (λ b. fault_if b KindMismatch) (own_kind y.text)) refl
-      by (Changed y parts) k root = none_fault _ _ _ _ _ _ (and_false (same_path p [])) unblocked (ap (λ b. fault_if (not b) NoSuchPath) (there ∙ some_of (f p) (λ x. is_some x.text ≡ is_some y.text) k.0)) refl (ap (λ b. fault_if b KindMismatch) (text_of_change y parts k.0)) refl
+      by Removed k root =
+          let a = ap (λ b. fault_if (b && true) BadPath) (root refl) in
+          let c = ap (λ b. fault_if (not b) NoSuchPath) (there ∙ k.0) in
+          let e = ap (λ b. fault_if b KindMismatch) (no_mismatch (option_map kind_of (now p))) in
+          λ i. first_of (a i ∷ unblocked i ∷ c i ∷ None ∷ e i ∷ None ∷ [])
+      by (Added y) k root =
+          let a = ap (λ b. fault_if (b && true) BadPath) (root refl) in
+          let c = ap (λ b. fault_if b PathThere) (there ∙ ap is_some k.0) in
+          let e = ap (λ b. fault_if b KindMismatch) (own_kind y.text) in
+          λ i. first_of (a i ∷ unblocked i ∷ c i ∷ None ∷ e i ∷ None ∷ [])
+      by (Replaced y) k root =
+          let a = ap (λ b. fault_if (b && true) BadPath) (root refl) in
+          let c = ap (λ b. fault_if (not b) NoSuchPath) (there ∙ k.0) in
+          let e = ap (λ b. fault_if b KindMismatch) (own_kind y.text) in
+          λ i. first_of (a i ∷ unblocked i ∷ c i ∷ None ∷ e i ∷ None ∷ [])
+      by (Changed y parts) k root =
+          let a = and_false (same_path p []) in
+          let c = ap (λ b. fault_if (not b) NoSuchPath) (there ∙ some_of (f p) (λ x. is_some x.text ≡ is_some y.text) k.0) in
+          let e = ap (λ b. fault_if b KindMismatch) (text_of_change y parts k.0) in
+          λ i. first_of (a i ∷ unblocked i ∷ c i ∷ None ∷ e i ∷ None ∷ [])
 
 -- ---- fronts of a list in order
 
