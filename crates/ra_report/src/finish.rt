@@ -9,7 +9,7 @@ ghost use Rattle.ra_report.specs.Edits.{edit_told};
 ghost use Rattle.ra_report.specs.Finishing.{Finishes};
 ghost use Rattle.ra_report.specs.Plans.{TellsPlan};
 
-use crate::plan::{Plan, plan};
+use crate::plan::{Plan, plan_of};
 use crate::send::send;
 use browse_wire::ask::BrowseCommand;
 use browse_wire::report::ReportCommand;
@@ -37,7 +37,7 @@ pub fn finish<P: RepoPort, W: Write + Drop>(
         (ask_as command.now) (map report_as report.now) port.old port.new out r.0 r.1) }
     ensures stays { PortStays P.repository P.refusals P.is_mirror port.old port.new }
 {
-    match plan(alloc, port, place, command, report) {
+    match plan_of(alloc, port, place, command, report) {
         Ok(plan) => answer(alloc, &plan, out),
         Err(stop) => refuse(stop, out),
     }

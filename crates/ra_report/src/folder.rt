@@ -17,7 +17,7 @@ use std::alloc::Global;
 use tree_reports::subtree;
 
 /// What stands at a folder of a revision, the newest where none is named.
-pub fn wanted<P: RepoPort>(
+pub fn look_up<P: RepoPort>(
     alloc: Global,
     port: &mut P,
     revision: Option<u64>,

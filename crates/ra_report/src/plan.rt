@@ -12,9 +12,9 @@ ghost use Rattle.ra_report.specs.Orders.{revision_of, place_of, wanted_denied};
 ghost use Rattle.ra_report.specs.Plans.{IsPlan, IsPlanOf};
 ghost use Rattle.ra_report.specs.Reports.{reports_denied, reported, base_of};
 
-use crate::folder::wanted;
+use crate::folder::look_up;
 use crate::order::{Order, order_of};
-use crate::report::reported;
+use crate::report::working_copy;
 use crate::revisions::props_up_to;
 use browse_wire::ask::BrowseCommand;
 use browse_wire::report::ReportCommand;
@@ -52,7 +52,7 @@ pub struct Plan {
 }
 
 /// The plan of a command and its report.
-pub fn plan<P: RepoPort>(
+pub fn plan_of<P: RepoPort>(
     alloc: Global,
     port: &mut P,
     place: &SessionUrl,
@@ -85,7 +85,7 @@ fn plan_for<P: RepoPort>(
         port.old port.new result }
     ensures stays { PortStays P.repository P.refusals P.is_mirror port.old port.new }
 {
-    match wanted(alloc, port, order.revision, &order.path) {
+    match look_up(alloc, port, order.revision, &order.path) {
         Ok(wanted) => plan_from(alloc, port, place, wanted, report),
         Err(stop) => Err(stop),
     }
@@ -105,7 +105,7 @@ fn plan_from<P: RepoPort>(
         port.old port.new result }
     ensures stays { PortStays P.repository P.refusals P.is_mirror port.old port.new }
 {
-    match reported(alloc, port, place, report) {
+    match working_copy(alloc, port, place, report) {
         Ok(copy) => planned(alloc, port, wanted, copy),
         Err(stop) => Err(stop),
     }

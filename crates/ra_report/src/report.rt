@@ -27,7 +27,7 @@ use std::alloc::Global;
 use tree_reports::Report;
 
 /// What is reported.
-pub fn reported<P: RepoPort>(
+pub fn working_copy<P: RepoPort>(
     alloc: Global,
     port: &mut P,
     place: &SessionUrl,

@@ -7,8 +7,8 @@ use Rattle.ra_report.proofs.finish.finish.Goals as goal
 
 pub returns-in-Ok-clause-told : goal.returns-in-Ok-clause-told
 returns-in-Ok-clause-told g c =
-    finishes_sent g.P.RepoPort.repository g.P.RepoPort.refusals g.W.Write.contents (place_as c.args.place.now) (ask_as c.args.command.now) (map report_as c.args.report.now) c.args.port.now c.plan.new.port c.args.out c.in-Ok.plan c.answer.result c.in-Ok.ensures.found c.answer.ensures
+    finishes_sent g.P.RepoPort.repository g.P.RepoPort.refusals g.W.Write.contents (place_as c.args.place.now) (ask_as c.args.command.now) (map report_as c.args.report.now) c.args.port.now c.plan_of.new.port c.args.out c.in-Ok.plan c.answer.result c.in-Ok.ensures.found c.answer.ensures
 
 pub returns-in-Err-clause-told : goal.returns-in-Err-clause-told
 returns-in-Err-clause-told g c =
-    finishes_stopped g.P.RepoPort.repository g.P.RepoPort.refusals g.W.Write.contents (place_as c.args.place.now) (ask_as c.args.command.now) (map report_as c.args.report.now) c.args.port.now c.plan.new.port c.args.out c.in-Err.stop c.refuse.result c.in-Err.ensures.found c.refuse.ensures
+    finishes_stopped g.P.RepoPort.repository g.P.RepoPort.refusals g.W.Write.contents (place_as c.args.place.now) (ask_as c.args.command.now) (map report_as c.args.report.now) c.args.port.now c.plan_of.new.port c.args.out c.in-Err.stop c.refuse.result c.in-Err.ensures.found c.refuse.ensures

@@ -7,7 +7,7 @@ use Rattle.ra_report.specs.Orders.{order_denied, wanted_denied, revision_of, pla
 use Rattle.ra_report.specs.Reports.{reports_denied}
 use Rattle.ra_report.proofs.Calls.{denied_first}
 use Rattle.ra_report.proofs.Planning.{plan_ordered}
-use Rattle.ra_report.proofs.plan.plan.Goals as goal
+use Rattle.ra_report.proofs.plan.plan_of.Goals as goal
 
 pub returns-in-Ok-clause-found : goal.returns-in-Ok-clause-found
 returns-in-Ok-clause-found g c = λ x e.

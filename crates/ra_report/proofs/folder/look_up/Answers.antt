@@ -3,7 +3,7 @@ use Rattle.ra_serve.specs.Answers.{asked, node_in}
 use Rattle.ra_browse.specs.Answers.{no_revision, dir_denied}
 use Rattle.ra_report.proofs.Calls.{first_stops}
 use Rattle.ra_report.proofs.Folders.{wanted_comes}
-use Rattle.ra_report.proofs.folder.wanted.Goals as goal
+use Rattle.ra_report.proofs.folder.look_up.Goals as goal
 
 pub returns-in-Ok-clause-found : goal.returns-in-Ok-clause-found
 returns-in-Ok-clause-found g c = λ x e.
