@@ -1,12 +1,9 @@
 pub mod Causes
-pub mod Turning
-pub mod Opening
 pub mod Exits
 pub mod Spelled
 pub mod Entries
 pub mod Laws
 pub mod Moves
 pub mod Mades
-pub mod Handed
 pub mod Fronts
 pub mod Located

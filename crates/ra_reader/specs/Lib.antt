@@ -1,0 +1,4 @@
+pub mod Sessions
+pub mod Takings
+pub mod Serving
+pub mod Laws
