@@ -74,7 +74,9 @@ told_is (Some x) (Some y) b t e = by (are_other_kinds (is_some x.text) (is_some 
 root_told : (o u : Option Node) (t : Told) → IsSomeAnd o (λ x. IsNone x.text) → IsSomeAnd u (λ x. IsNone x.text) → told o u false ≡ Some t → settled t ≡ false
 root_told None u t d e h = absurd d
 root_told (Some x) None t d e h = absurd e
-root_told (Some x) (Some y) t d e h = by (not (parts_of x y).props && not (parts_of x y).text) (sym (λ i. cond (are_other_kinds (not_some x.text d i) (not_some y.text e i)) (Some (Replaced y)) (told_same_kind y (parts_of x y))) ∙ h)
+root_told (Some x) (Some y) t d e h =
+    let k : cond (are_other_kinds (is_some x.text) (is_some y.text)) (Some (Replaced y)) (told_same_kind y (parts_of x y)) ≡ told_same_kind y (parts_of x y) = λ i. cond (are_other_kinds (not_some x.text d i) (not_some y.text e i)) (Some (Replaced y)) (told_same_kind y (parts_of x y)) in
+    by (not (parts_of x y).props && not (parts_of x y).text) (sym k ∙ h)
   where
     by : (l : Bool) → cond l None (Some (Changed y (parts_of x y))) ≡ Some t → settled t ≡ false
     by true k = absurd cc
