@@ -13,7 +13,9 @@ use Rattle.tree_reports.specs.Applied.{Content, content}
 use Rattle.tree_reports.specs.Reports.{Answers, brought, content_at, due, placed, report_fault}
 use Rattle.tree_reports.specs.declared.error.ReportError.{ReportError}
 use Rattle.tree_reports.specs.declared.error.ReportError.TheVariants as error
-use Rattle.browse_wire.specs.Reports.{Reported}
+use Rattle.browse_wire.specs.Reports.{Reported, report_as}
+use Rattle.browse_wire.specs.Urls.{Url}
+use Rattle.browse_wire.specs.declared.report.ReportCommand.{ReportCommand}
 use Rattle.repo_core.specs.Repository.{Repository}
 use Rattle.ra_serve.specs.Ports as port
 use Rattle.ra_serve.specs.Ports.{tree_of}
@@ -23,7 +25,7 @@ use Rattle.ra_browse.specs.declared.stop.Stop.{Stop}
 use Rattle.ra_browse.specs.Answers.{no_revision}
 use Rattle.ra_browse.specs.Tellings.{Comes, Decides, Denies}
 use Rattle.ra_browse.proofs.Causes.{is_there}
-use Rattle.ra_report.specs.Reports.{Known, is_blocked, placing_denied, source_denied, with_source, error_stop}
+use Rattle.ra_report.specs.Reports.{Known, is_blocked, placing_denied, source_denied, with_source, next_denied, next_known, error_stop}
 use Rattle.ra_report.proofs.Calls.{then_decides}
 
 -- ---- why a path isn't taken
@@ -101,3 +103,10 @@ pub source_comes : (x : Repository) (old : Known) (r : Reported) (source : Path)
 source_comes x old r source tree new k m result h t d =
     then_decides k m (no_revision x r.revision) (placing_denied old r.path (tree_of x r.revision) source r.start_empty) (λ _. (q : Path) → new q ≡ with_source x old r source q) (λ _. (q : Path) → new q ≡ with_source x old r source q) result (is_there x r.revision h) (λ u i. i)
     (subst (λ v. Decides (placing_denied old r.path v source r.start_empty) (λ _. (q : Path) → new q ≡ placed old r.path (brought r.start_empty v source) q) result) t d)
+
+-- ---- of a command
+
+pub taken_as : (x : Repository) (at : Url) (old new : Known) (c d : ReportCommand) (k m : ℕ) (r : Result (Unit {0}) Stop) → c ≡ d
+    → Comes k m (next_denied x at old (report_as d)) (λ _. (q : Path) → new q ≡ next_known x at old (report_as d) q) r
+    → Comes k m (next_denied x at old (report_as c)) (λ _. (q : Path) → new q ≡ next_known x at old (report_as c) q) r
+taken_as x at old new c d k m r e h = subst (λ v. Comes k m (next_denied x at old (report_as v)) (λ _. (q : Path) → new q ≡ next_known x at old (report_as v) q) r) (sym e) h
