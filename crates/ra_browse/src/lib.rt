@@ -8,7 +8,7 @@
 
 pub use ask::tree_asked;
 pub use denial::Denial;
-pub use pieces::{write_end, write_name};
+pub use pieces::{write_end, write_name, write_none};
 pub use stop::{Stop, stopped};
 pub use told::{deny, tell, write_denied};
 

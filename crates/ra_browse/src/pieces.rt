@@ -37,6 +37,14 @@ pub fn write_end<W: Write>(out: &mut W) -> io::Result<()>
     write_close(out)
 }
 
+/// Brackets without anything.
+pub fn write_none<W: Write>(out: &mut W) -> io::Result<()>
+    ensures { OnOk result (Appends (W.contents out.old) (W.contents out.new) (spell (list []))) }
+{
+    write_open(out)?;
+    write_close(out)
+}
+
 // A property.
 fn write_property<W: Write>(out: &mut W, name: &[u8], found: &[u8]) -> io::Result<()>
     ensures { OnOk result (Appends (W.contents out.old) (W.contents out.new) (spell (property (name.now, found.now)))) }

