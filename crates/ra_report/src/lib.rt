@@ -1,4 +1,3 @@
-LEAD: read /work/h/report/00-READ-NOW.md and /work/h/faults/report.md now, then remove this line!
 //! A working copy's report, answered by the edit that makes what is wanted of it.
 //!
 //! A command that a report follows is asked first whether it is one that is answered ([`ordered`]). The report's commands

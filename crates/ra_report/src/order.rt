@@ -1,4 +1,3 @@
-LEAD: read /work/h/report/00-READ-NOW.md and /work/h/faults/report.md now, then remove this line!
 //! What a command that a report follows wants.
 
 ghost use Rattle.std.specs.Prelude.{◌≡◌, Some, None};
