@@ -1,4 +1,3 @@
--- !!! LEAD TO HELPER: read /work/h/report/00-READ-NOW.md and /work/h/faults/report.md, then remove this line
 -- What a command that a report follows wants a working copy to become: what stands at a place of a revision.
 use Rattle.std.specs.Prelude.{ℕ, Bool, true, false, not, ◌&&◌, [], Option, Some, None}
 use Rattle.std.specs.Option.{option_or}

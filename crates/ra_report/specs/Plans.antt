@@ -1,4 +1,3 @@
--- !!! LEAD TO HELPER: read /work/h/report/00-READ-NOW.md and /work/h/faults/report.md, then remove this line
 -- What an edit is made of, as it is in code.
 use Rattle.std.specs.Prelude.{◌≡◌, ℕ, suc, take, List, [], ◌∷◌, ◌++◌, Option, Some}
 use Rattle.std.specs.FinMap as finite

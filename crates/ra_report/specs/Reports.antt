@@ -1,4 +1,3 @@
--- !!! LEAD TO HELPER: read /work/h/report/00-READ-NOW.md and /work/h/faults/report.md, then remove this line
 -- What a working copy reports that it has, command by command. The nodes' numbers don't count.
 use Rattle.std.specs.Prelude.{ℕ, Bool, true, false, not, ◌&&◌, ◌||◌, List, [], ◌∷◌, ◌++◌, Option, Some, None, is_some, is_none, if◌then◌else◌}
 use Rattle.std.specs.Option.{option_map, option_map_or, option_or}

@@ -1,4 +1,3 @@
-// !!! LEAD TO HELPER: read /work/h/report/00-READ-NOW.md and /work/h/faults/report.md, then remove this line
 //! What is denied of a command, and of a report.
 
 use crate::reports::{Case, answered, order};

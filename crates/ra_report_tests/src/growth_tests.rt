@@ -1,4 +1,3 @@
-// !!! LEAD TO HELPER: read /work/h/report/00-READ-NOW.md and /work/h/faults/report.md, then remove this line
 // Every growth of these tests may be refused: each then answers for what is left, and stays green. `rt try --test
 // --fail-alloc N` refuses the growth number N.
 
