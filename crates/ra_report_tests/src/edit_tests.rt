@@ -10,80 +10,91 @@ use std::rt::HostRuntime;
 
 const ROOT: &[u8] = b"svn://127.0.0.1:3690";
 
-// What a session at the root asks and reports.
-const ROWS: [(&[u8], &[u8], &[u8]); 13] = [
+// What a session at the root asks and reports, and a letter for the edit.
+const ROWS: [(&[u8], &[u8], u8); 13] = [
     // a checkout
     (
         b"( update ( ( 3 ) 0: true unknown false false ) )",
         b"( set-path ( 0: 3 true ( ) infinity ) ) ",
-        FRESH,
+        b'n',
     ),
     // a checkout of the newest revision
     (
         b"( update ( ( ) 0: true infinity false false ) )",
         b"( set-path ( 0: 3 true ) ) ",
-        FRESH,
+        b'n',
     ),
     // all entries are missing
     (
         b"( update ( ( 3 ) 0: true ) )",
         b"( set-path ( 0: 3 false ) ) ( delete-path ( 4:tags ) ) ( delete-path ( 5:trunk ) ) ",
-        FRESH,
+        b'n',
     ),
     (
         b"( update ( ( 3 ) 0: true unknown false false ) )",
         b"( set-path ( 0: 3 false ( ) infinity ) ) ",
-        SAME,
+        b's',
     ),
     // entries that were there are set, and one is linked
     (
         b"( update ( ( 3 ) 0: true ) )",
         b"( set-path ( 0: 3 true ) ) ( set-path ( 4:tags 3 false ) ) ( link-path ( 5:trunk 26:svn://127.0.0.1:3690/trunk 3 false ) ) ",
-        SAME,
+        b's',
     ),
     (
         b"( update ( ( 3 ) 0: true ) )",
         b"( set-path ( 0: 1 false ) ) ",
-        FORWARD,
+        b'f',
     ),
     // a folder that is of an earlier revision than what is in it, and then not
     (
         b"( update ( ( 3 ) 0: true ) )",
         b"( set-path ( 0: 1 false ) ) ( set-path ( 5:trunk 3 false ) ) ( set-path ( 5:trunk 1 false ) ) ",
-        FORWARD,
+        b'f',
     ),
     // what is below a path that is set again counts no more
     (
         b"( update ( ( 3 ) 0: true ) )",
         b"( set-path ( 0: 1 false ) ) ( delete-path ( 9:trunk/lib ) ) ( set-path ( 5:trunk 1 false ) ) ",
-        FORWARD,
+        b'f',
     ),
     (
         b"( diff ( ( 3 ) 0: true false 20:svn://127.0.0.1:3690 true infinity ) )",
         b"( set-path ( 0: 1 false ) ) ",
-        FORWARD,
+        b'f',
     ),
     (
         b"( status ( 0: true ( 3 ) infinity ) )",
         b"( set-path ( 0: 1 false ) ) ",
-        FORWARD,
+        b'f',
     ),
     (
         b"( update ( ( 1 ) 0: true ) )",
         b"( set-path ( 0: 3 false ) ) ",
-        BACK,
+        b'b',
     ),
     (
         b"( switch ( ( 1 ) 0: true 20:svn://127.0.0.1:3690 infinity ) )",
         b"( set-path ( 0: 3 false ) ) ",
-        BACK,
+        b'b',
     ),
     (
         b"( update ( ( 2 ) 0: true ) )",
         b"( set-path ( 0: 1 false ) ) ",
-        ONE_FORWARD,
+        b'o',
     ),
 ];
+
+// The edit of a letter.
+fn edit_of(letter: u8) -> &'static [u8] {
+    match letter {
+        b'n' => FRESH,
+        b's' => SAME,
+        b'f' => FORWARD,
+        b'o' => ONE_FORWARD,
+        _ => BACK,
+    }
+}
 
 // Whether a case is answered by an edit.
 fn is_edit<P: RepoPort>(alloc: Global, port: &mut P, case: &Case<'_>, edit: &[u8]) -> bool {
@@ -101,7 +112,7 @@ fn first_wrong<P: RepoPort>(alloc: Global, port: &mut P) -> Option<&'static [u8]
             asked: row.0,
             reported: row.1,
         };
-        if !is_edit(alloc, port, &case, row.2) {
+        if !is_edit(alloc, port, &case, edit_of(row.2)) {
             return Some(row.1);
         }
     }

@@ -15,6 +15,7 @@ use std::io::Write;
 pub(crate) const AUTHORISED: &[u8] = b"( success ( ( ) 0: ) ) ";
 
 /// A session at a URL, a command, and the report behind it.
+#[derive(Clone, Copy, Drop)]
 pub(crate) struct Case<'a> {
     pub(crate) url: &'a [u8],
     pub(crate) asked: &'a [u8],
@@ -25,10 +26,12 @@ pub(crate) struct Case<'a> {
 fn items_of(alloc: Global, bytes: &[u8]) -> Result<Vec<Item>, ServeFault> {
     let mut reader = ItemReader::new(alloc);
     let mut items = Vec::new(alloc);
-    match reader.feed(bytes, &mut items) {
-        Ok(()) => Ok(items),
-        Err(_) => Err(ServeFault::OutOfMemory),
+    let whole = reader.feed(bytes, &mut items).is_ok();
+    // the last item ends by what stands behind it
+    if whole && reader.feed(b" ", &mut items).is_ok() {
+        return Ok(items);
     }
+    Err(ServeFault::OutOfMemory)
 }
 
 // The command of an item.
