@@ -1,10 +1,12 @@
 -- Commands of a report one after another.
-use Rattle.std.proofs.Common.{◌≡◌, ℕ, ◌≤◌, List, [], ◌∷◌, Option, Some, None, Result, refl, sym, ap, subst, ◌∙◌}
+use Rattle.std.proofs.Common.{◌≡◌, ℕ, zero, suc, ◌+◌, ◌≤◌, ◌<◌, List, [], ◌∷◌, map, drop, length, get_or, Option, Some, None, Result, refl, sym, ap, subst, ◌∙◌, arith}
+use Rattle.std.proofs.Math.Seq.{drop-cons}
 use Rattle.std.specs.Option.{option_or}
 use Rattle.node_base.specs.Path.{Path}
 use Rattle.tree_reports.specs.Applied.{Content}
 use Rattle.tree_reports.specs.Reports.{content_at}
-use Rattle.browse_wire.specs.Reports.{Report}
+use Rattle.browse_wire.specs.Reports.{Report, report_as}
+use Rattle.browse_wire.specs.declared.report.ReportCommand.{ReportCommand}
 use Rattle.browse_wire.specs.Urls.{Url}
 use Rattle.repo_core.specs.Repository.{Repository}
 use Rattle.ra_browse.specs.declared.denial.Denial.{Denial}
@@ -50,3 +52,28 @@ reported_comes x at c cs rs k m l copy r e h d is later =
 
 pub reported_stops : (x : Repository) (at : Url) (c : Report) (cs rs : List Report) (p n : ℕ) (s : Stop) → rs ≡ c ∷ cs → n ≤ n → MayStop p n (begin_denied x at.1 c) s → MayStop p n (reports_denied x at rs) s
 reported_stops x at c cs rs p n s e h m = subst (λ a. MayStop p n (reports_denied x at a) s) (sym e) (first_stops p n n (begin_denied x at.1 c) (later_denied x at (begin_known x at.1 c) cs) s h m)
+
+-- ---- in a loop over them
+
+next_of : (rest : List ReportCommand) (i : ℕ) (c : ReportCommand) → i < length rest → c ≡ get_or rest i c → drop i rest ≡ c ∷ drop (i + 1) rest
+next_of rest i c h e =
+    let s : suc i ≡ i + 1 = omega arith in
+    drop-cons rest i c h ∙ ap (λ d. d ∷ drop (suc i) rest) (sym e) ∙ ap (λ j. c ∷ drop j rest) s
+
+pub next_left : (x : Repository) (at : Url) (k first : Known) (rest : List ReportCommand) (i : ℕ) (c : ReportCommand) (all : List Report) → i < length rest → c ≡ get_or rest i c → IsLeft x at k (map report_as (drop i rest)) first all → IsLeft x at k (report_as c ∷ map report_as (drop (i + 1) rest)) first all
+next_left x at k first rest i c all h e l = subst (λ r. IsLeft x at k (map report_as r) first all) (next_of rest i c h e) l
+
+drop_all : (rest : List ReportCommand) (i : ℕ) → length rest ≤ i → drop i rest ≡ []
+drop_all [] zero h = refl
+drop_all [] (suc i) h = refl
+drop_all (c ∷ rest) zero h = absurd (none (length rest) h)
+  where
+    none : (n : ℕ) → suc n ≤ 0 → ⊥
+    none n h = omega (arith, h)
+drop_all (c ∷ rest) (suc i) h = drop_all rest i (omega (arith, h))
+
+-- behind the last
+pub none_left : (x : Repository) (at : Url) (k first : Known) (rest : List ReportCommand) (i : ℕ) (all : List Report) → length rest ≤ i → IsLeft x at k (map report_as (drop i rest)) first all → (later_denied x at first all ≡ None) × ((q : Path) → k q ≡ later_known x at first all q)
+none_left x at k first rest i all h l =
+    let e : IsLeft x at k [] first all = subst (λ r. IsLeft x at k (map report_as r) first all) (drop_all rest i h) l in
+    (sym e.denied, λ q. e.known q)

@@ -1,5 +1,5 @@
 -- What a command that a report follows wants a working copy to become: what stands at a place of a revision.
-use Rattle.std.specs.Prelude.{ℕ, Bool, true, false, not, ◌&&◌, [], Option, Some, None}
+use Rattle.std.specs.Prelude.{◌≡◌, ℕ, Bool, true, false, not, ◌&&◌, [], Option, Some, None}
 use Rattle.std.specs.Option.{option_or}
 use Rattle.node_base.specs.Path.{Path, same_path}
 use Rattle.dump_load.specs.Faults.{fault_if}

@@ -7,10 +7,10 @@
 //! `specs/Orders` has what a command wants, `specs/Reports` what a report says, and `specs/Edits` what it is answered.
 #![tactic(auto)]
 
-pub use finish::finish;
+pub use answer::finish;
 pub use order::{awaits_report, ordered};
 
-mod finish;
+mod answer;
 mod folder;
 mod order;
 mod plan;

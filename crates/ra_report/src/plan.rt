@@ -8,7 +8,7 @@ ghost use Rattle.ra_browse.specs.Answers.{no_revision};
 ghost use Rattle.ra_browse.specs.Tellings.{place_as, Finds, PortStays};
 ghost use Rattle.ra_report.specs.Edits.{report_denied};
 ghost use Rattle.ra_report.specs.Orders.{revision_of, place_of, wanted_denied};
-ghost use Rattle.ra_report.specs.Plans.{IsPlan, IsPlanOf};
+ghost use Rattle.ra_report.specs.Plans.{IsPlan, IsPlanOf, IsPlanned};
 ghost use Rattle.ra_report.specs.Reports.{reports_denied, reported, base_of};
 
 use crate::folder::look_up;

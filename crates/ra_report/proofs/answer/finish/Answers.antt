@@ -3,7 +3,7 @@ use Rattle.browse_wire.specs.Asks.{ask_as}
 use Rattle.browse_wire.specs.Reports.{report_as}
 use Rattle.ra_browse.specs.Tellings.{place_as}
 use Rattle.ra_report.proofs.Planning.{finishes_sent, finishes_stopped}
-use Rattle.ra_report.proofs.finish.finish.Goals as goal
+use Rattle.ra_report.proofs.answer.finish.Goals as goal
 
 pub returns-in-Ok-clause-told : goal.returns-in-Ok-clause-told
 returns-in-Ok-clause-told g c =
