@@ -1,9 +1,9 @@
 -- Exits of what answers a command.
 use Rattle.std.proofs.Common.{◌≡◌, ℕ, ◌≤◌, inl, inr, Bool, true, false, List, [], ◌∷◌, ◌++◌, map, Option, Some, None, Result, Ok, Err, true≢false, refl, sym, ap, subst, ◌∙◌}
-use Rattle.std.proofs.KnownBytes.{Appends-trans, Appends-kept}
+use Rattle.std.proofs.KnownBytes.{Appends-trans}
 use Rattle.std.specs.Prelude.{IfOk, if◌then◌else◌}
 use Rattle.std.specs.FinMap as finite
-use Rattle.std.specs.Io.KnownBytes.{Appends, Keeps}
+use Rattle.std.specs.Io.KnownBytes.{Appends}
 use Rattle.uuid.specs.Text.{hyphenated_text, lower}
 use Rattle.fleet_disk.specs.Rules.{Rose}
 use Rattle.node_base.specs.Path.{Path}
@@ -199,20 +199,3 @@ answers_none repository refusals contents at read f d old out (Ok w) k b a = λ 
       counted = inl tt;
       bytes = subst (λ v. Appends (contents out) (contents w) (denied v)) (sym b) a;
     })
-
--- and let go out
-pub answers_kept : {P W : Type 0} (repository : P → Option Repository) (refusals : P → ℕ) (contents : W → Option (List ℕ)) (at : Url) (read : Reading) (old new : P) (out mid : W) (result : Result W ServeFault)
-    → Answers repository refusals contents at read old new out mid
-    → IfOk result (λ w. Keeps (contents mid) (contents w))
-    → IfOk result (Answers repository refusals contents at read old new out)
-answers_kept repository refusals contents at read old new out mid (Err g) t k = tt
-answers_kept repository refusals contents at read old new out mid (Ok w) t k = λ x e.
-    let r = t x e in
-    record {
-      halt = r.halt;
-      found = r.found;
-      has = r.has;
-      lawful = r.lawful;
-      counted = r.counted;
-      bytes = Appends-kept (contents out) (contents mid) (contents w) (answer x at read r.found r.halt) r.bytes k;
-    }

@@ -1,5 +1,5 @@
 -- Laws of what clients are told.
-use Rattle.std.proofs.Common.{◌≡◌, ℕ, Bool, true, false, List, [], ◌∷◌, ◌++◌, Option, Some, None, Result, Ok, Err, refl, ap, ◌∙◌}
+use Rattle.std.proofs.Common.{◌≡◌, ℕ, Bool, true, false, ◌++◌, Option, Some, None, Result, Ok, Err, refl, ap, ◌∙◌}
 use Rattle.std.specs.Prelude.{if◌then◌else◌}
 use Rattle.std.specs.Str.{bytes_eq}
 use Rattle.node_base.specs.Path.{Path}
@@ -7,13 +7,12 @@ use Rattle.node_base.specs.declared.node.Node.{Node}
 use Rattle.repo_core.specs.Repository.{Repository}
 use Rattle.ra_item.specs.Items.{spell}
 use Rattle.browse_wire.specs.Asks.{Ask, Plain, Stat, Log, Locations, Segments, FileRevs, Reparent, GetLock, GetLocks, Update, Switch, Status, Diff}
-use Rattle.browse_wire.specs.AskReading.{Reading, ask_in}
+use Rattle.browse_wire.specs.AskReading.{Reading}
 use Rattle.browse_wire.specs.Urls.{Url, url_read}
 use Rattle.browse_wire.specs.declared.url.UrlFault.{UrlFault}
 use Rattle.ra_serve.specs.Answers.{asked, node_in}
 use Rattle.ra_browse.specs.Denials.{unless_denied}
 use Rattle.ra_browse.specs.Answers.{no_revision, made_of, made_for, moved, moved_to, behind, reply, stat_told, browse_content}
-use Rattle.ra_browse.specs.Sessions.{Turn, stands, place_after}
 use Rattle.ra_browse.specs.Laws.{IsReparent}
 
 pub stat_told_node : (x : Repository) (at : Url) (p : Path) (n : Option ℕ) (d : Node) → no_revision x (asked x n) ≡ None → node_in x (asked x n) (at.1 ++ p) ≡ Some d → reply x at (Stat p n) ≡ spell (stat_told (Some d) (made_of x d.changed))
@@ -57,10 +56,6 @@ root_kept at (Switch n p url d copies ignores) = refl
 root_kept at (Status n p d) = refl
 root_kept at (Diff n p url d ignores texts) = refl
 
-root_behind : (at : Url) (read : Reading) → (behind at read).0 ≡ at.0
+pub root_behind : (at : Url) (read : Reading) → (behind at read).0 ≡ at.0
 root_behind at (Ok c) = root_kept at c
 root_behind at (Err f) = refl
-
-pub one_root : (at : Url) (ts : List Turn) → (stands at ts).0 ≡ at.0
-one_root at [] = refl
-one_root at (t ∷ ts) = one_root (place_after at t) ts ∙ root_behind at (ask_in t.item)

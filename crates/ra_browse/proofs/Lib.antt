@@ -1,13 +1,10 @@
 pub mod Causes
-pub mod Turning
-pub mod Opening
 pub mod Exits
 pub mod Spelled
 pub mod Entries
 pub mod Laws
 pub mod Moves
 pub mod Mades
-pub mod Handed
 pub mod Fronts
 pub mod Located
 pub mod Logged

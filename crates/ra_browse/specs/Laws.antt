@@ -1,5 +1,5 @@
 -- Laws of what clients are told.
-use Rattle.std.specs.Prelude.{◌≡◌, ◌++◌, ℕ, List, Option, Some, None}
+use Rattle.std.specs.Prelude.{◌≡◌, ◌++◌, ℕ, Option, Some, None}
 use Rattle.node_base.specs.Path.{Path}
 use Rattle.node_base.specs.declared.node.Node.{Node}
 use Rattle.repo_core.specs.Repository.{Repository}
@@ -8,7 +8,6 @@ use Rattle.browse_wire.specs.Asks.{Ask, Stat, Reparent}
 use Rattle.browse_wire.specs.Urls.{Url}
 use Rattle.ra_serve.specs.Answers.{asked, node_in}
 use Rattle.ra_browse.specs.Answers.{no_revision, made_of, moved, reply, stat_told}
-use Rattle.ra_browse.specs.Sessions.{Turn, stands}
 
 -- the node at the session's path and the one that is asked for, of the revision that is asked for
 abbrev pub StatIsTheNode : Type 0
@@ -20,6 +19,3 @@ IsReparent c = ⊥
 
 abbrev pub OnlyReparentMoves : Type 0
 OnlyReparentMoves = (at : Url) (c : Ask) → (IsReparent c → ⊥) → moved at c ≡ at
-
-abbrev pub StandsBelowOneRoot : Type 0
-StandsBelowOneRoot = (at : Url) (ts : List Turn) → (stands at ts).0 ≡ at.0

@@ -22,10 +22,6 @@ use Rattle.ra_browse.specs.declared.stop.Stop.{Stop}
 use Rattle.ra_browse.specs.declared.stop.Stop.TheVariants as stop
 use Rattle.ra_browse.specs.declared.made.Made as declared_made
 use Rattle.ra_browse.specs.declared.look.Seen as declared_seen
-use Rattle.node_base.specs.declared.refusal.Refusal.{Refusal}
-use Rattle.node_base.specs.declared.refusal.Refusal.TheVariants as refusal
-use Rattle.ra_browse.specs.declared.session.Misplaced.{Misplaced}
-use Rattle.ra_browse.specs.declared.session.Misplaced.TheVariants as misplaced
 use Rattle.ra_item.specs.Items.{spell}
 use Rattle.ra_wire.specs.Replies.{done}
 use Rattle.browse_wire.specs.Told.{end_item}
@@ -49,15 +45,6 @@ place_as u = (u.root.items, u.path)
 
 abbrev pub made_as : declared_made.Made → Made
 made_as m = record { date = option_map (λ t. t.items) m.date; author = option_map (λ t. t.items) m.author }
-
-abbrev pub refusal_for : Misplaced → Refusal
-refusal_for misplaced.TooLong = refusal.TooLong
-refusal_for misplaced.BadPath = refusal.BadPath
-refusal_for misplaced.BadShape = refusal.BadShape
-
-abbrev pub placed_as : Result SessionUrl Misplaced → Result Url Refusal
-placed_as (Ok u) = Ok (place_as u)
-placed_as (Err m) = Err (refusal_for m)
 
 -- ---- what is looked for
 

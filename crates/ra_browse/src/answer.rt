@@ -65,8 +65,8 @@ pub fn answer<P: RepoPort, W: Write + Drop>(
     }
 }
 
-// Answers a command.
-fn command_answer<P: RepoPort, W: Write + Drop>(
+/// Answers a command, and goes where it leads.
+pub fn command_answer<P: RepoPort, W: Write + Drop>(
     alloc: Global,
     port: &mut P,
     place: &mut SessionUrl,
@@ -143,8 +143,8 @@ fn is_plain(command: &Command) -> bool
     }
 }
 
-// What stands before the answer to a command.
-fn authorise<W: Write + Drop>(out: W) -> Result<W, ServeFault>
+/// What stands before the answer to a command.
+pub fn authorise<W: Write + Drop>(out: W) -> Result<W, ServeFault>
     ensures { IfOk result (λ w. Appends (W.contents out) (W.contents w) (spell authorised)) }
 {
     let mut out = out;

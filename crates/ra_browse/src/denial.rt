@@ -26,6 +26,8 @@ pub enum Denial {
     Unknown,
     /// An item of another shape.
     BadShape,
+    /// A report that doesn't begin with its folder, or has a path where it has no directory.
+    BadReport,
 }
 
 impl Denial {
@@ -43,6 +45,7 @@ impl Denial {
             Denial::Unsupported => Refusal::NotSupported.number(),
             Denial::Unknown => Refusal::UnknownCommand.number(),
             Denial::BadShape => 210_004,
+            Denial::BadReport => 165_004,
         }
     }
 
@@ -60,6 +63,7 @@ impl Denial {
             Denial::Unsupported => Refusal::NotSupported.text(),
             Denial::Unknown => Refusal::UnknownCommand.text(),
             Denial::BadShape => b"bad command shape",
+            Denial::BadReport => b"bad revision report",
         }
     }
 }

@@ -1,20 +1,19 @@
-//! A repository served to Subversion's reading clients over the ra_svn protocol.
+//! What the single commands of Subversion's reading clients are answered over the ra_svn protocol.
 //!
-//! [`browse`] answers one session from any `RepoPort` of `ra_serve`. The session stands at the client's URL: its paths
-//! are relative to it, and `reparent` moves it. No answer changes the repository. [`browse_to`] is the same over an output
-//! that counts its failures.
+//! [`answer::command_answer`] answers one command from any `RepoPort` of `ra_serve`. The session that asks stands at its
+//! client's URL: its paths are relative to it, and `reparent` moves it. No answer changes the repository.
 //!
-//! `specs/Answers` has what each command is denied and told, and `specs/Sessions` what a whole session is; the clause
-//! `served` of [`browse`] is on these.
+//! `specs/Answers` has what each command is denied and told.
 #![tactic(auto)]
 
-pub use counted::browse_to;
+pub use ask::tree_asked;
 pub use denial::Denial;
-pub use session::browse;
+pub use pieces::{write_end, write_name, write_none};
+pub use stop::{Stop, stopped};
+pub use told::{deny, tell, write_denied};
 
-mod answer;
+pub mod answer;
 mod ask;
-mod counted;
 mod denial;
 mod dir;
 mod file;
@@ -25,7 +24,6 @@ mod look;
 mod made;
 mod pieces;
 mod place;
-mod session;
 mod stat;
 mod stop;
 mod told;

@@ -59,8 +59,8 @@ fn refuse<W: Write + Drop>(fault: PortFault, out: W) -> Result<W, ServeFault>
     Ok(out)
 }
 
-// A failure, by its number and text.
-fn write_denied<W: Write>(out: &mut W, n: u64, text: &[u8]) -> io::Result<()>
+/// A failure, by its number and text.
+pub fn write_denied<W: Write>(out: &mut W, n: u64, text: &[u8]) -> io::Result<()>
     ensures { OnOk result (Appends (W.contents out.old) (W.contents out.new) (spell (failure n text.now))) }
 {
     write_failed(out, b"failure", n, text)

@@ -1,6 +1,7 @@
 -- The calls of an update make what is wanted.
-use Rattle.std.proofs.Common.{◌≡◌, ℕ, List, [], ◌∷◌, ◌++◌, Option, Some, None, Result, Ok, Err, IfOk, IfErr, OnOk, inr, sym, ap, subst, ◌∙◌}
+use Rattle.std.proofs.Common.{◌≡◌, ℕ, List, [], ◌∷◌, ◌++◌, Option, Some, None, Result, Ok, Err, IfOk, IfErr, OnOk, inl, inr, sym, ap, subst, ◌∙◌}
 use Rattle.std.specs.Option.{option_map, option_map_or}
+use Rattle.std.proofs.lemmas.Option.{none-some}
 use Rattle.std.specs.FinMap as finite
 use Rattle.std.specs.Io.KnownBytes.{Appends}
 use Rattle.node_base.specs.Path.{Path}
@@ -10,6 +11,7 @@ use Rattle.dump_load.specs.declared.change.Change.{Change}
 use Rattle.dump_load.specs.Changes.{IsNormal}
 use Rattle.dump_load.specs.Effect.{effect}
 use Rattle.dump_load.specs.Faults.{fault}
+use Rattle.delta_editor.specs.Faults.{refused}
 use Rattle.delta_editor.specs.CallEffect.{all_called, call_effect}
 use Rattle.delta_editor.specs.declared.call.Call.TheVariants as call
 use Rattle.delta_editor.proofs.CallLemmas.{all_called-append}
@@ -21,7 +23,7 @@ use Rattle.ra_edit.specs.Commands.{edit_bytes}
 use Rattle.tree_changes.specs.Changes.{AreBetween}
 use Rattle.tree_reports.specs.Applied.{Content, content}
 use Rattle.ra_update.specs.Alike.{AreAlike}
-use Rattle.ra_update.specs.Sent.{up_to_end, calls_told, end_item, Make, IsUnsent}
+use Rattle.ra_update.specs.Sent.{up_to_end, calls_told, end_item, Make, IsUnsent, OfMemory, OfWriter, OfChanges}
 use Rattle.ra_update.specs.Updates.{IsUpdate, MayStop}
 use Rattle.delta_editor.specs.declared.fault.EditorFault.{EditorFault}
 use Rattle.ra_update.specs.declared.facts.Facts.{Facts}
@@ -53,16 +55,16 @@ makes m wanted k s h q =
     (sym (ap (option_map content) (drive_but_end m s q)) ∙ h q)
 
 -- what was written of changes between two trees is an update
-pub is_update : {T F : Type 0} (contents : T → Option (List ℕ)) (m wanted : PathMap) (k : Facts) (out : T) (s items : List Change) (r : Result T F) → s ≡ items → DriveHasTheEffect → AreBetween m wanted items → IsNormal items
-    → ((q : Path) → option_map content (effect (m ∷ []) items q) ≡ option_map content (finite.get wanted q))
-    → IfOk r (λ w. Appends (contents out) (contents w) (edit_bytes (calls_told k (m ∷ []) s) ++ spell end_item)) → OnOk r (fault (m ∷ []) s ≡ None) → IfOk r (IsUpdate contents m wanted k out)
-is_update contents m wanted k out s items (Ok w) e law between normal makes_it bytes faultless = record {
+pub is_update : {T F : Type 0} (contents : T → Option (List ℕ)) (m : PathMap) (k : Facts) (out : T) (s items : List Change) (r : Result T F) → s ≡ items → DriveHasTheEffect → AreBetween m k.target.now items → IsNormal items
+    → ((q : Path) → option_map content (effect (m ∷ []) items q) ≡ option_map content (finite.get k.target.now q))
+    → IfOk r (λ w. Appends (contents out) (contents w) (edit_bytes (calls_told k (m ∷ []) s) ++ spell end_item)) → OnOk r (fault (m ∷ []) s ≡ None) → IfOk r (IsUpdate contents m k out)
+is_update contents m k out s items (Ok w) e law between normal makes_it bytes faultless = record {
   changes = s;
-  between = subst (AreBetween m wanted) (sym e) between;
-  makes = makes m wanted k s (λ q. ap (option_map content) (law (m ∷ []) s (subst IsNormal (sym e) normal) faultless q ∙ ap (λ l. effect (m ∷ []) l q) e) ∙ makes_it q);
+  between = subst (AreBetween m k.target.now) (sym e) between;
+  makes = makes m k.target.now k s (λ q. ap (option_map content) (law (m ∷ []) s (subst IsNormal (sym e) normal) faultless q ∙ ap (λ l. effect (m ∷ []) l q) e) ∙ makes_it q);
   bytes = bytes;
 }
-is_update contents m wanted k out s items (Err f) e law between normal makes_it bytes faultless = tt
+is_update contents m k out s items (Err f) e law between normal makes_it bytes faultless = tt
 
 -- two parts of what is written, the first of a list of trees that is this one
 pub both_written : {T F : Type 0} (contents : T → Option (List ℕ)) (k : Facts) (m : PathMap) (trees items : List PathMap) (s : List Change) (out mid : T) (r : Result T F) → trees ≡ items → items ≡ m ∷ [] → Appends (contents out) (contents mid) (edit_bytes (calls_told k trees s))
@@ -71,6 +73,12 @@ both_written contents k m trees items s out mid (Ok w) e is first second =
     appends_join (contents out) (contents mid) (contents w) (edit_bytes (calls_told k (m ∷ []) s)) (spell end_item) (subst (λ l. Appends (contents out) (contents mid) (edit_bytes (calls_told k l s))) (e ∙ is) first) second
 both_written contents k m trees items s out mid (Err f) e is first second = tt
 
-pub may_stop : {X : Type 0} (m wanted : PathMap) (s items : List Change) (r : Result X EditorFault) → s ≡ items → AreBetween m wanted items → IfErr r (IsUnsent (m ∷ []) s) → IfErr r (MayStop m wanted)
-may_stop m wanted s items (Ok x) e between h = tt
-may_stop m wanted s items (Err f) e between h = inr (s, subst (AreBetween m wanted) (sym e) between, h)
+-- changes between two trees have no fault
+stops : (m : PathMap) (s items : List Change) (f : EditorFault) → s ≡ items → fault (m ∷ []) items ≡ None → IsUnsent (m ∷ []) s f → MayStop f
+stops m s items f e n (OfMemory k) = inl k
+stops m s items f e n (OfWriter k) = inr k
+stops m s items f e n (OfChanges k) = absurd (none-some f (sym (ap (option_map refused) (ap (fault (m ∷ [])) e ∙ n)) ∙ k))
+
+pub may_stop : {X : Type 0} (m : PathMap) (s items : List Change) (r : Result X EditorFault) → s ≡ items → fault (m ∷ []) items ≡ None → IfErr r (IsUnsent (m ∷ []) s) → IfErr r MayStop
+may_stop m s items (Ok x) e n h = tt
+may_stop m s items (Err f) e n h = stops m s items f e n h

@@ -3,10 +3,10 @@
 use node_base::{Props, RevNo};
 use path_tree::Tree;
 
-/// What an edit tells beside what differs.
+/// What an edit makes, and what it tells beside what differs.
 #[derive(Clone, Copy)]
 pub struct Facts<'a> {
-    /// The tree of what is wanted, with the numbers of the revisions that last changed its nodes.
+    /// The tree that is wanted, with the numbers of the revisions that last changed its nodes.
     pub target: &'a Tree,
     /// Its revision.
     pub number: RevNo,

@@ -23,21 +23,19 @@ use tree_changes::changes_between;
 /// target, the calls that the changes are driven as, each with what a client wants to know beside it, and the end. What
 /// differs in the nodes' numbers alone isn't told.
 ///
-/// Refused: for want of memory (70), with `PeerFailed` (49) where the writer failed, and with the first fault of the
-/// changes over the tree that was reported. The writer is let go of then.
+/// Refused: for want of memory (70), and with `PeerFailed` (49) where the writer failed. The writer is let go of then.
 pub fn send_update<W: Write + Drop>(
     alloc: Global,
     reported: &Tree,
-    wanted: &Tree,
     facts: &Facts<'_>,
     out: W,
 ) -> Result<W, EditorFault>
-    ensures sent { IfOk result (IsUpdate W.contents reported.now wanted.now facts.now out) }
-    ensures refused { IfErr result (MayStop reported.now wanted.now) }
+    ensures sent { IfOk result (IsUpdate W.contents reported.now facts.now out) }
+    ensures refused { IfErr result MayStop }
 {
     // For the proof: where changes have no fault, the calls that they are driven as have their effect.
     editor_ends::law::drive_has_the_effect();
-    let changes = changes_between(alloc, reported, wanted)?;
+    let changes = changes_between(alloc, reported, facts.target)?;
     send_over(alloc, reported, changes.as_slice(), facts, out)
 }
 

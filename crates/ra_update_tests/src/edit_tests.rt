@@ -117,7 +117,7 @@ fn is_edit(rt: &impl Abort, alloc: Global, from: u16, base: u16, to: u16, expect
         identity: b"6a1f0c3e-0000-4000-8000-0000000000a1",
         revisions: revisions.as_slice(),
     };
-    let out = send_update(alloc, &reported, &target, &facts, Vec::new(alloc)).expect(rt, "memory");
+    let out = send_update(alloc, &reported, &facts, Vec::new(alloc)).expect(rt, "memory");
     out.as_slice() == expected
 }
 
@@ -150,18 +150,18 @@ fn is_edit_to(
     if unwanted.len() > 0 {
         let path = NodePath::parse(alloc, unwanted).expect(rt, "a path");
         wanted
-            .remove(alloc, &path, RevNo::ZERO)
+            .remove(alloc, &path, RevNo::new(3))
             .expect(rt, "a path");
     }
     let revisions = revisions(rt, alloc);
     let facts = Facts {
-        target,
+        target: &wanted,
         number: RevNo::new(3),
         base: Some(RevNo::new(base)),
         identity: b"6a1f0c3e-0000-4000-8000-0000000000a1",
         revisions: revisions.as_slice(),
     };
-    let out = send_update(alloc, reported, &wanted, &facts, Vec::new(alloc)).expect(rt, "memory");
+    let out = send_update(alloc, reported, &facts, Vec::new(alloc)).expect(rt, "memory");
     out.as_slice() == expected
 }
 

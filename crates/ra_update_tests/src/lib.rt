@@ -3,5 +3,4 @@
 
 #[cfg(test)]
 mod edit_tests;
-#[cfg(test)]
-mod edits;
+pub mod edits;

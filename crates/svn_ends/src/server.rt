@@ -28,7 +28,7 @@ pub struct Address<'a> {
     pub port: u16,
     /// The URL that they are told as the repository's root, where it isn't that of the port.
     pub root_url: Option<&'a str>,
-    /// Whether they read at URLs of their own, as `ra_browse` answers, and don't copy the repository.
+    /// Whether they read at URLs of their own, as `ra_reader` answers, and don't copy the repository.
     pub browse: bool,
 }
 

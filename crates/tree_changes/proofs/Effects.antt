@@ -47,7 +47,7 @@ change_at_told q (e ∷ es) =
     ] refl
 
 -- whether what is told of a path settles it
-abbrev settled : Told → Bool
+abbrev pub settled : Told → Bool
 settled Removed = true
 settled (Added y) = true
 settled (Replaced y) = true
@@ -230,7 +230,12 @@ none_both : {A : Type 0} (b : Bool) → ◌≡◌ {A = Option A} None (cond b No
 none_both true = refl
 none_both false = refl
 
-module _ (m : PathMap) (g : Path → Option Node) (es : List (Path × Told)) (fronts : HasFronts (finite.get m)) (h : AreDifferences (finite.get m) g es) where
+-- some of what differs between two trees is told
+pub record ArePart (f g : Path → Option Node) (es : List (Path × Told)) : Type 0 where
+  pub in_order : T (is_sorted path_cmp es)
+  pub each : (p : Path) (t : Told) → find path_cmp p es ≡ Some t → told_at f g p ≡ Some t
+
+module _ (m : PathMap) (g : Path → Option Node) (es : List (Path × Told)) (fronts : HasFronts (finite.get m)) (h : ArePart (finite.get m) g es) where
   abbrev f : Path → Option Node
   f = finite.get m
 
@@ -263,9 +268,16 @@ module _ (m : PathMap) (g : Path → Option Node) (es : List (Path × Told)) (fr
           ∙ ap (option_and_then (brought (m ∷ []) (told_change p t.0))) (rest_after-append p (n ∷ r))
           ∙ nothing_below (m ∷ []) p t.0 n r
 
+  above_settled : (p : Path) → settled_by (told_at f g p) ≡ takes_below (told_at f g p) → settled_by (d p) ≡ takes_below (d p)
+  above_settled p k = by (d p) refl
+    where
+      by : (o : Option Told) → d p ≡ o → settled_by (d p) ≡ takes_below (d p)
+      by None is = ap settled_by is ∙ sym (ap takes_below is)
+      by (Some t) is = subst (λ o. settled_by o ≡ takes_below o) (h.each p t is ∙ sym is) k
+
   above_goes : (q : Path) → IsSome (f q) → settled_by (d q) ≡ false → is_some (governing cs q) ≡ goes_with d q
   above_goes q some here = settled_above s d q (λ p. ap is_some (s_is p) ∙ is_some_kept p (d p)) here
-      (λ p n r e. ap settled_by (h.each p) ∙ above_was_there f g fronts q some p n r e ∙ ap takes_below (sym (h.each p)))
+      (λ p n r e. above_settled p (above_was_there f g fronts q some p n r e))
 
   laid_unsettled : (q : Path) → settled_by (d q) ≡ false → laid (m ∷ []) cs q ≡ cond (goes_with d q) None (f q)
   laid_unsettled q here = by (governing cs q) refl
@@ -315,12 +327,16 @@ module _ (m : PathMap) (g : Path → Option Node) (es : List (Path × Told)) (fr
         where
           same : (u : Option Node) → f q ≡ u → option_map (λ x. content (with_parts (told_change q (Changed y parts)) x)) u ≡ option_map (make.with_parts y parts) (option_map content u)
           same None e = refl
-          same (Some x) e = ap (λ c. Some c) (changed_content q y parts x (same_kinds x (g q) (is_some (blocked g q)) y parts (ap (λ u. told u (g q) (is_some (blocked g q))) (sym e) ∙ sym (h.each q) ∙ is)))
+          same (Some x) e = ap (λ c. Some c) (changed_content q y parts x (same_kinds x (g q) (is_some (blocked g q)) y parts (ap (λ u. told u (g q) (is_some (blocked g q))) (sym e) ∙ h.each q (Changed y parts) is)))
 
           each : (b : Bool) → option_map (λ x. content (with_parts (told_change q (Changed y parts)) x)) (cond b None (f q)) ≡ option_map (make.with_parts y parts) (cond b None (option_map content (f q)))
           each true = refl
           each false = same (f q) refl
 
+-- the effect of the changes that they are
+pub effect_part : (m : PathMap) (g : Path → Option Node) (es : List (Path × Told)) → HasFronts (finite.get m) → ArePart (finite.get m) g es → (q : Path) → option_map content (effect (m ∷ []) (changes_of es) q) ≡ applied (λ q. find path_cmp q es) (finite.get m) q
+effect_part m g es fronts h q = effect_applied m g es fronts h q
+
 -- the effect of the changes is the new tree
 pub effect_makes : (m : PathMap) (g : Path → Option Node) (es : List (Path × Told)) → HasFronts (finite.get m) → AreDifferences (finite.get m) g es → Make es (finite.get m) g → (q : Path) → option_map content (effect (m ∷ []) (changes_of es) q) ≡ option_map content (g q)
-effect_makes m g es fronts h made q = effect_applied m g es fronts h q ∙ made q
+effect_makes m g es fronts h made q = effect_applied m g es fronts (record { in_order = h.in_order; each = λ p t e. sym (h.each p) ∙ e }) q ∙ made q

@@ -1,10 +1,11 @@
 //! The changes between two trees.
-ghost use Rattle.std.specs.Prelude.{◌≡◌, ◌∷◌, [], IfOk};
+ghost use Rattle.std.specs.Prelude.{◌≡◌, ◌∷◌, [], None, IfOk};
 ghost use Rattle.std.specs.Option.{option_map};
 ghost use Rattle.std.specs.FinMap as map;
 ghost use Rattle.node_base.specs.Path.{Path};
 ghost use Rattle.dump_load.specs.Changes.{IsNormal};
 ghost use Rattle.dump_load.specs.Effect.{effect};
+ghost use Rattle.dump_load.specs.Faults.{fault};
 ghost use Rattle.tree_reports.specs.Applied.{content};
 ghost use Rattle.tree_reports.specs.Differences.{shown};
 ghost use Rattle.tree_changes.specs.Changes.{AreBetween, Between};
@@ -17,10 +18,11 @@ use tree_reports::{Depth, Difference, differences};
 
 /// The changes that make the new tree of the old one: one for each path at which they differ, in path order. A node
 /// that comes is given with all its properties and its text, and one that stays with the parts that differ. The nodes'
-/// numbers don't count. Texts and properties are shared with the trees.
+/// numbers don't count. Texts and properties are shared with the trees. The changes have no fault over the old tree.
 pub fn changes_between(alloc: Global, old: &Tree, new: &Tree) -> Result<Vec<Change>, AllocError>
     ensures between { IfOk result (λ cs. AreBetween old.now new.now cs.items) }
     ensures normal { IfOk result (λ cs. IsNormal cs.items) }
+    ensures faultless { IfOk result (λ cs. fault (old.now ∷ []) cs.items ≡ None) }
     // what the changes make of the old tree is the new one
     ensures effect { IfOk result (λ cs. (q : Path) → option_map content (effect (old.now ∷ []) cs.items q)
         ≡ option_map content (map.get new.now q)) }
@@ -39,6 +41,7 @@ fn changes_told(
     requires told { Between old.now new.now (shown told.now) }
     ensures between { IfOk result (λ cs. AreBetween old.now new.now cs.items) }
     ensures normal { IfOk result (λ cs. IsNormal cs.items) }
+    ensures faultless { IfOk result (λ cs. fault (old.now ∷ []) cs.items ≡ None) }
     ensures effect { IfOk result (λ cs. (q : Path) → option_map content (effect (old.now ∷ []) cs.items q)
         ≡ option_map content (map.get new.now q)) }
 {

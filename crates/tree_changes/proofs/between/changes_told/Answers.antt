@@ -1,12 +1,14 @@
-use Rattle.std.proofs.Common.{◌≡◌, [], ◌∷◌, map, Ok, Err, IfOk, sym, subst}
+use Rattle.std.proofs.Common.{◌≡◌, [], ◌∷◌, map, None, Ok, Err, IfOk, sym, ap, subst, ◌∙◌}
 use Rattle.std.specs.Option.{option_map}
 use Rattle.std.specs.FinMap as finite
 use Rattle.node_base.specs.Path.{Path}
 use Rattle.dump_load.specs.Changes.{IsNormal}
 use Rattle.dump_load.specs.Effect.{effect}
+use Rattle.dump_load.specs.Faults.{fault}
 use Rattle.tree_reports.specs.Applied.{content}
 use Rattle.tree_reports.specs.Differences.{shown}
 use Rattle.tree_changes.specs.Changes.{change_of, AreBetween}
+use Rattle.tree_changes.proofs.Faultless.{no_fault_between}
 use Rattle.tree_changes.proofs.Makes.{effect_between}
 use Rattle.tree_changes.proofs.Normal.{normal, paths_fit}
 use Rattle.tree_changes.proofs.between.changes_told.Goals as goal
@@ -34,5 +36,13 @@ returns-clause-effect c =
     let new = c.args.new.now in
     elim c.changes_of.result as (λ r. IfOk r (λ cs. cs.items ≡ map change_of (shown c.args.told.now)) → IfOk r (λ cs. (q : Path) → option_map content (effect (old ∷ []) cs.items q) ≡ option_map content (finite.get new q))) [
       | Ok cs ↦ λ e. λ q. subst (λ l. option_map content (effect (old ∷ []) l q) ≡ option_map content (finite.get new q)) (sym e) (effect_between old new (shown c.args.told.now) c.is_tree.ensures c.is_tree-2.ensures c.requires.told q)
+      | Err e ↦ λ h. h
+    ] c.changes_of.ensures
+
+pub returns-clause-faultless : goal.returns-clause-faultless
+returns-clause-faultless c =
+    let old = c.args.old.now in
+    elim c.changes_of.result as (λ r. IfOk r (λ cs. cs.items ≡ map change_of (shown c.args.told.now)) → IfOk r (λ cs. fault (old ∷ []) cs.items ≡ None)) [
+      | Ok cs ↦ λ e. ap (fault (old ∷ [])) e ∙ no_fault_between old c.args.new.now (shown c.args.told.now) c.is_tree.ensures c.is_tree-2.ensures c.requires.told
       | Err e ↦ λ h. h
     ] c.changes_of.ensures

@@ -1,5 +1,0 @@
-use Rattle.ra_browse.proofs.Laws.{one_root}
-use Rattle.ra_browse.proofs.law.stands_below_one_root.Goals as goal
-
-pub returns : goal.returns
-returns c = one_root

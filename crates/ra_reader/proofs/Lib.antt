@@ -1,0 +1,5 @@
+pub mod Turning
+pub mod Opening
+pub mod Exits
+pub mod Laws
+pub mod Handed

@@ -1,0 +1,5 @@
+pub mod Standings
+pub mod Sessions
+pub mod Takings
+pub mod Serving
+pub mod Laws

@@ -1,0 +1,374 @@
+//! A session from its greeting to its end.
+
+ghost use Rattle.std.specs.Prelude.{◌≡◌, ◌≤◌, ◌++◌, ◌∷◌, [], IfOk, IfErr, OnOk};
+ghost use Rattle.std.specs.Option.{option_map};
+ghost use Rattle.std.specs.Io.KnownBytes.{Appends, Keeps};
+ghost use Rattle.byte_streams.specs.Causes.{Fails};
+ghost use Rattle.uuid.specs.Text.{hyphenated_text, lower};
+ghost use Rattle.node_base.specs.Refusals.{refusal_number, refusal_text};
+ghost use Rattle.ra_item.specs.ItemStreams.{meanwhile, reader_of};
+ghost use Rattle.ra_item.specs.Items.{spell, Number, Word};
+ghost use Rattle.ra_item.specs.declared.fault.NextFault.TheVariants as next;
+ghost use Rattle.ra_wire.specs.Openings.{login_in, login_as};
+ghost use Rattle.ra_wire.specs.Replies.{answer_of, done, list, mechanisms, only_anonymous, welcome};
+ghost use Rattle.browse_wire.specs.Urls.{url_read};
+ghost use Rattle.ra_serve.specs.Answers.{refused};
+ghost use Rattle.ra_serve.specs.Serving.{EndsBy};
+ghost use Rattle.ra_serve.specs.Sessions.{is_anonymous};
+ghost use Rattle.ra_reader.specs.Serving.{BrowsesSession, BrowsesLogin, BrowsesCommands};
+ghost use Rattle.ra_reader.specs.Sessions.{greeting, place_in, place_read};
+ghost use Rattle.ra_browse.specs.Tellings.{place_as, PortStays};
+ghost use Rattle.ra_reader.specs.Takings.{placed_as, refusal_for, standing_as, Turns};
+
+use crate::phase::Phase;
+use crate::take::take;
+use browse_wire::url::{SessionUrl, UrlFault};
+use byte_streams::Input;
+use ra_browse::{write_end, write_name, write_none};
+use ra_item::fault::{ItemFault, NextFault};
+use ra_item::item::Item;
+use ra_item::stream::ItemStream;
+use ra_item::writer::{write_close, write_number, write_open, write_word};
+use ra_serve::{End, RepoPort, ServeFault};
+use ra_wire::fault::WireFault;
+use ra_wire::opening::{Hello, Login};
+use ra_wire::reply_writer::{
+    write_done, write_failure, write_mechanisms, write_only_anonymous, write_welcome,
+};
+use std::alloc::Global;
+use std::io;
+use std::io::Write;
+use uuid::Uuid;
+
+/// Serves one session of a reading client: the opening, then the answer to each command that the client sends. It ends
+/// where the input ends between items, where the opening ends it, and at a fault of items, and hands the writer back.
+///
+/// What it wrote is the answers to the items that it took, whatever the pieces in which they came: `ReadFailed` (49)
+/// only where the input's count of failures rose, or it was read 2^40 - 1 times, `WriteFailed` (49), or `OutOfMemory`
+/// (70) for a growth of its own. The repository stays what it was, however the session ends.
+pub fn browse<P: RepoPort, I: Input + Drop, W: Write + Drop>(
+    alloc: Global,
+    port: &mut P,
+    items: &mut ItemStream<I>,
+    out: W,
+) -> Result<(W, End), ServeFault>
+    ensures served { IfOk result (λ r. BrowsesSession P.repository P.refusals I.remaining W.contents
+        port.old port.new items.old items.new out r.0 r.1) }
+    ensures reader { IfErr result (λ f. f ≡ ServeFault.ReadFailed
+        → Fails (meanwhile I.failures I.reads items.old items.new)) }
+    ensures failures { I.failures (reader_of items.old) ≤ I.failures (reader_of items.new) }
+    ensures stays { PortStays P.repository P.refusals P.is_mirror port.old port.new }
+{
+    let out = greet(out)?;
+    let item = match items.next() {
+        Ok(Some(item)) => item,
+        Ok(None) => return Ok((out, End::Input)),
+        Err(fault) => return ended(fault, out),
+    };
+    match placed(alloc, item)? {
+        Ok(place) => log_in(alloc, port, place, items, out),
+        Err(why) => {
+            let out = refuse_opening(why, out)?;
+            Ok((out, End::Opening))
+        }
+    }
+}
+
+/// Why a client's greeting places no session.
+#[derive(Clone, Copy, Drop)]
+pub enum Misplaced {
+    /// The URL's path is past a limit (8).
+    TooLong,
+    /// Another URL (10).
+    BadPath,
+    /// Another item (48).
+    BadShape,
+}
+
+impl Misplaced {
+    /// Its number in the table of refusals.
+    fn number(self) -> u8
+        ensures { result ≡ refusal_number (refusal_for self) }
+    {
+        match self {
+            Misplaced::TooLong => 8,
+            Misplaced::BadPath => 10,
+            Misplaced::BadShape => 48,
+        }
+    }
+
+    /// Its text.
+    fn text(self) -> &'static [u8]
+        ensures { result.now ≡ refusal_text (refusal_for self) }
+    {
+        match self {
+            Misplaced::TooLong => b"limit exceeded",
+            Misplaced::BadPath => b"bad path",
+            Misplaced::BadShape => b"bad command shape",
+        }
+    }
+}
+
+// Where a client's greeting places the session.
+fn placed(alloc: Global, item: Item) -> Result<Result<SessionUrl, Misplaced>, ServeFault>
+    ensures told { IfOk result (λ r. placed_as r ≡ place_in item) }
+    ensures reader { IfErr result (λ f. f ≡ ServeFault.ReadFailed → ⊥) }
+{
+    match Hello::parse(alloc, item) {
+        Ok(hello) => placed_at(alloc, hello.url.as_slice()),
+        Err(WireFault::BadShape) => Ok(Err(Misplaced::BadShape)),
+        Err(_) => Err(ServeFault::OutOfMemory),
+    }
+}
+
+// Where a URL places it.
+fn placed_at(alloc: Global, url: &[u8]) -> Result<Result<SessionUrl, Misplaced>, ServeFault>
+    ensures told { IfOk result (λ r. placed_as r ≡ place_read (url_read url.now)) }
+    ensures reader { IfErr result (λ f. f ≡ ServeFault.ReadFailed → ⊥) }
+{
+    match SessionUrl::parse(alloc, url) {
+        Ok(place) => Ok(Ok(place)),
+        Err(UrlFault::OutOfMemory) => Err(ServeFault::OutOfMemory),
+        Err(UrlFault::TooLong) => Ok(Err(Misplaced::TooLong)),
+        Err(_) => Ok(Err(Misplaced::BadPath)),
+    }
+}
+
+// The greeting, which the client awaits.
+fn greet<W: Write + Drop>(out: W) -> Result<W, ServeFault>
+    ensures sent { IfOk result (λ w. Appends (W.contents out) (W.contents w) (spell greeting)) }
+    ensures writer { IfErr result (λ f. f ≡ ServeFault.ReadFailed → ⊥) }
+{
+    let mut out = out;
+    write_greeting(&mut out)?;
+    flushed(out)
+}
+
+fn write_greeting<W: Write>(out: &mut W) -> io::Result<()>
+    ensures { OnOk result (Appends (W.contents out.old) (W.contents out.new) (spell greeting)) }
+{
+    write_versions(out, b"success", b"edit-pipeline")
+}
+
+// The greeting, with its name and the capability.
+fn write_versions<W: Write>(out: &mut W, name: &[u8], capability: &[u8]) -> io::Result<()>
+    ensures { OnOk result (Appends (W.contents out.old) (W.contents out.new)
+        (spell (answer_of name.now (Number 2 ∷ Number 2 ∷ list [] ∷ list (Word capability.now ∷ []) ∷ [])))) }
+{
+    write_name(out, name)?;
+    write_number(out, 2)?;
+    write_number(out, 2)?;
+    write_none(out)?;
+    write_one(out, capability)?;
+    write_end(out)
+}
+
+// A word in brackets.
+fn write_one<W: Write>(out: &mut W, word: &[u8]) -> io::Result<()>
+    ensures { OnOk result (Appends (W.contents out.old) (W.contents out.new) (spell (list (Word word.now ∷ [])))) }
+{
+    write_open(out)?;
+    write_word(out, word)?;
+    write_close(out)
+}
+
+// What is kept back goes out.
+fn flushed<W: Write + Drop>(out: W) -> Result<W, ServeFault>
+    ensures kept { IfOk result (λ w. Keeps (W.contents out) (W.contents w)) }
+    ensures writer { IfErr result (λ f. f ≡ ServeFault.ReadFailed → ⊥) }
+{
+    let mut out = out;
+    out.flush()?;
+    Ok(out)
+}
+
+// A refusal of the stream.
+fn ended<W: Write + Drop>(fault: NextFault, out: W) -> Result<(W, End), ServeFault>
+    ensures told { IfOk result (λ r. (r.0 ≡ out) × EndsBy fault r.1) }
+    ensures reader { IfErr result (λ f. f ≡ ServeFault.ReadFailed → fault ≡ next.PeerFailed) }
+{
+    match fault {
+        NextFault::PeerFailed => Err(ServeFault::ReadFailed),
+        NextFault::Items(ItemFault::OutOfMemory) => Err(ServeFault::OutOfMemory),
+        NextFault::Items(fault) => Ok((out, End::Items(fault))),
+    }
+}
+
+// Who the client is, and then its commands.
+fn log_in<P: RepoPort, I: Input + Drop, W: Write + Drop>(
+    alloc: Global,
+    port: &mut P,
+    place: SessionUrl,
+    items: &mut ItemStream<I>,
+    out: W,
+) -> Result<(W, End), ServeFault>
+    ensures served { IfOk result (λ r. BrowsesLogin P.repository P.refusals I.remaining W.contents
+        (place_as place) port.old port.new items.old items.new out r.0 r.1) }
+    ensures reader { IfErr result (λ f. f ≡ ServeFault.ReadFailed
+        → Fails (meanwhile I.failures I.reads items.old items.new)) }
+    ensures failures { I.failures (reader_of items.old) ≤ I.failures (reader_of items.new) }
+    ensures stays { PortStays P.repository P.refusals P.is_mirror port.old port.new }
+{
+    let identity = port.identity();
+    let out = ask_who(&identity, out)?;
+    let item = match items.next() {
+        Ok(Some(item)) => item,
+        Ok(None) => return Ok((out, End::Input)),
+        Err(fault) => return ended(fault, out),
+    };
+    match logs_in(item)? {
+        Some(true) => {
+            let out = welcome(&identity, place.root.as_slice(), out)?;
+            commands(alloc, port, place, items, out)
+        }
+        Some(false) => {
+            let out = only_anonymous(out)?;
+            Ok((out, End::Opening))
+        }
+        None => {
+            let out = refuse_opening(Misplaced::BadShape, out)?;
+            Ok((out, End::Opening))
+        }
+    }
+}
+
+// Whether a client says in the one way that is taken who it is; none for an item of another shape.
+fn logs_in(item: Item) -> Result<Option<bool>, ServeFault>
+    ensures told { IfOk result (λ o. o ≡ option_map is_anonymous (login_in item)) }
+    ensures reader { IfErr result (λ f. f ≡ ServeFault.ReadFailed → ⊥) }
+{
+    match Login::parse(item) {
+        Ok(login) => Ok(Some(is_anonymous(&login))),
+        Err(WireFault::BadShape) => Ok(None),
+        Err(_) => Err(ServeFault::OutOfMemory),
+    }
+}
+
+fn is_anonymous(login: &Login) -> bool
+    ensures { result ≡ is_anonymous (login_as login.now) }
+{
+    login.mechanism.as_slice() == b"ANONYMOUS".as_slice()
+}
+
+// Asks the client who it is.
+fn ask_who<W: Write + Drop>(identity: &Uuid, out: W) -> Result<W, ServeFault>
+    ensures sent { IfOk result (λ w. Appends (W.contents out) (W.contents w)
+        (spell (mechanisms (hyphenated_text lower identity.now)))) }
+    ensures writer { IfErr result (λ f. f ≡ ServeFault.ReadFailed → ⊥) }
+{
+    let mut out = out;
+    write_realm(&mut out, identity)?;
+    flushed(out)
+}
+
+fn write_realm<W: Write>(out: &mut W, identity: &Uuid) -> io::Result<()>
+    ensures { OnOk result (Appends (W.contents out.old) (W.contents out.new)
+        (spell (mechanisms (hyphenated_text lower identity.now)))) }
+{
+    let mut buffer = Uuid::encode_buffer();
+    let realm = identity.hyphenated().encode_lower(&mut buffer);
+    write_mechanisms(out, realm.as_bytes())
+}
+
+// The end of an opening.
+fn welcome<W: Write + Drop>(identity: &Uuid, root_url: &[u8], out: W) -> Result<W, ServeFault>
+    ensures sent { IfOk result (λ w. Appends (W.contents out) (W.contents w)
+        (spell done ++ spell (welcome (hyphenated_text lower identity.now) root_url.now))) }
+    ensures writer { IfErr result (λ f. f ≡ ServeFault.ReadFailed → ⊥) }
+{
+    let mut out = out;
+    write_done(&mut out)?;
+    write_identity(&mut out, identity, root_url)?;
+    flushed(out)
+}
+
+fn write_identity<W: Write>(out: &mut W, identity: &Uuid, root_url: &[u8]) -> io::Result<()>
+    ensures { OnOk result (Appends (W.contents out.old) (W.contents out.new)
+        (spell (welcome (hyphenated_text lower identity.now) root_url.now))) }
+{
+    let mut buffer = Uuid::encode_buffer();
+    let text = identity.hyphenated().encode_lower(&mut buffer);
+    write_welcome(out, text.as_bytes(), root_url)
+}
+
+// The client says in another way who it is.
+fn only_anonymous<W: Write + Drop>(out: W) -> Result<W, ServeFault>
+    ensures sent { IfOk result (λ w. Appends (W.contents out) (W.contents w) (spell only_anonymous)) }
+    ensures writer { IfErr result (λ f. f ≡ ServeFault.ReadFailed → ⊥) }
+{
+    let mut out = out;
+    write_only_anonymous(&mut out)?;
+    flushed(out)
+}
+
+// The client's item places no session.
+fn refuse_opening<W: Write + Drop>(why: Misplaced, out: W) -> Result<W, ServeFault>
+    ensures sent { IfOk result (λ w. Appends (W.contents out) (W.contents w) (refused (refusal_for why))) }
+    ensures writer { IfErr result (λ f. f ≡ ServeFault.ReadFailed → ⊥) }
+{
+    let mut out = out;
+    write_refused(&mut out, why)?;
+    flushed(out)
+}
+
+fn write_refused<W: Write>(out: &mut W, why: Misplaced) -> io::Result<()>
+    ensures { OnOk result (Appends (W.contents out.old) (W.contents out.new) (refused (refusal_for why))) }
+{
+    write_failure(out, why.number(), why.text())
+}
+
+// The commands of a session up to its end.
+fn commands<P: RepoPort, I: Input + Drop, W: Write + Drop>(
+    alloc: Global,
+    port: &mut P,
+    place: SessionUrl,
+    items: &mut ItemStream<I>,
+    out: W,
+) -> Result<(W, End), ServeFault>
+    ensures served { IfOk result (λ r. BrowsesCommands P.repository P.refusals I.remaining W.contents
+        (place_as place) port.old port.new items.old items.new out r.0 r.1) }
+    ensures reader { IfErr result (λ f. f ≡ ServeFault.ReadFailed
+        → Fails (meanwhile I.failures I.reads items.old items.new)) }
+    ensures failures { I.failures (reader_of items.old) ≤ I.failures (reader_of items.new) }
+    ensures stays { PortStays P.repository P.refusals P.is_mirror port.old port.new }
+{
+    let mut here = place;
+    let mut phase = Phase::Idle;
+    let mut sent = out;
+    for _ in 0..u64::MAX {
+        match items.next() {
+            Ok(Some(item)) => {
+                let (next, told) = turn(alloc, port, &mut here, phase, item, sent)?;
+                phase = next;
+                sent = told;
+            }
+            Ok(None) => return Ok((sent, End::Input)),
+            Err(fault) => return ended(fault, sent),
+        }
+    }
+    Err(ServeFault::OutOfMemory)
+}
+
+// Takes an item, and lets the answer go out.
+fn turn<P: RepoPort, W: Write + Drop>(
+    alloc: Global,
+    port: &mut P,
+    place: &mut SessionUrl,
+    phase: Phase,
+    item: Item,
+    out: W,
+) -> Result<(Phase, W), ServeFault>
+    ensures told { IfOk result (λ r. Turns P.repository P.refusals W.contents (standing_as place.old phase) item
+        port.old port.new out r.1 (standing_as place.new r.0)) }
+    ensures stays { PortStays P.repository P.refusals P.is_mirror port.old port.new }
+    ensures writer { IfErr result (λ f. f ≡ ServeFault.ReadFailed → ⊥) }
+{
+    match take(alloc, port, place, phase, item, out) {
+        Ok((phase, out)) => {
+            let out = flushed(out)?;
+            Ok((phase, out))
+        }
+        Err(ServeFault::OutOfMemory) => Err(ServeFault::OutOfMemory),
+        Err(_) => Err(ServeFault::WriteFailed),
+    }
+}

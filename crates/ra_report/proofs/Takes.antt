@@ -1,0 +1,112 @@
+-- Paths that a report's commands set.
+use Rattle.std.proofs.Common.{◌≡◌, ℕ, Bool, true, false, not, ◌&&◌, List, [], ◌∷◌, ◌++◌, Option, Some, None, is_some, is_none, Result, Ok, Err, refl, sym, ap, subst, ◌∙◌, cond}
+use Rattle.std.specs.Option.{option_map, option_map_or, option_or}
+use Rattle.std.specs.FinMap as finite
+use Rattle.node_base.specs.Path.{Path, same_path}
+use Rattle.node_base.specs.Tree.{PathMap, blocked}
+use Rattle.node_base.specs.declared.fault.TreeFault.{TreeFault}
+use Rattle.node_base.specs.declared.fault.TreeFault.TheVariants.{NoSuchPath, NotDir}
+use Rattle.node_base.specs.declared.node.Node.{Node}
+use Rattle.path_tree.specs.Copies.{copy_too_long}
+use Rattle.dump_load.specs.Faults.{fault_if}
+use Rattle.tree_reports.specs.Applied.{Content, content}
+use Rattle.tree_reports.specs.Reports.{Answers, brought, content_at, due, placed, report_fault}
+use Rattle.tree_reports.specs.declared.error.ReportError.{ReportError}
+use Rattle.tree_reports.specs.declared.error.ReportError.TheVariants as error
+use Rattle.browse_wire.specs.Reports.{Reported, report_as}
+use Rattle.browse_wire.specs.Urls.{Url}
+use Rattle.browse_wire.specs.declared.report.ReportCommand.{ReportCommand}
+use Rattle.repo_core.specs.Repository.{Repository}
+use Rattle.ra_serve.specs.Ports as port
+use Rattle.ra_serve.specs.Ports.{tree_of}
+use Rattle.ra_browse.specs.declared.denial.Denial.{Denial}
+use Rattle.ra_browse.specs.declared.denial.Denial.TheVariants as denial
+use Rattle.ra_browse.specs.declared.stop.Stop.{Stop}
+use Rattle.ra_browse.specs.Answers.{no_revision}
+use Rattle.ra_browse.specs.Tellings.{Comes, Decides, Denies}
+use Rattle.ra_browse.proofs.Causes.{is_there}
+use Rattle.ra_report.specs.Reports.{Known, is_blocked, placing_denied, source_denied, with_source, next_denied, next_known, error_stop}
+use Rattle.ra_report.proofs.Calls.{then_decides}
+
+-- ---- why a path isn't taken
+
+abbrev denial_of : ReportError → Denial
+denial_of error.Root = denial.BadReport
+denial_of error.NoFolder = denial.BadReport
+denial_of error.NotThere = denial.NoPath
+denial_of error.TooLong = denial.Unsupported
+denial_of error.OutOfMemory = denial.Unsupported
+
+blocked_is : (f : Path → Option Node) (p : Path) → is_some (blocked f p) ≡ is_blocked (λ q. option_map content (f q)) p
+blocked_is f [] = refl
+blocked_is f (n ∷ p) = by (f []) (blocked_is (λ q. f (n ∷ q)) p)
+  where
+    by : (o : Option Node) → is_some (blocked (λ q. f (n ∷ q)) p) ≡ is_blocked (λ q. option_map content (f (n ∷ q))) p
+        → is_some (option_map_or (λ x. cond (is_some x.text) (Some NotDir) (blocked (λ q. f (n ∷ q)) p)) o (Some NoSuchPath)) ≡ option_map_or (λ c. cond (is_some c.text) true (is_blocked (λ q. option_map content (f (n ∷ q))) p)) (option_map content o) true
+    by None e = refl
+    by (Some x) e = elim (is_some x.text) as (λ b. is_some (cond b (Some NotDir) (blocked (λ q. f (n ∷ q)) p)) ≡ cond b true (is_blocked (λ q. option_map content (f (n ∷ q))) p)) [ true ↦ refl | false ↦ e ]
+
+faults_denied : (a b c d : Bool) (o : Option TreeFault) → is_some o ≡ b
+    → option_map denial_of (option_or (due a error.Root) (option_or (option_map (λ _. error.NoFolder) o) (option_or (due c error.NotThere) (due d error.TooLong)))) ≡ option_or (fault_if a denial.BadReport) (option_or (fault_if b denial.BadReport) (option_or (fault_if c denial.NoPath) (fault_if d denial.Unsupported)))
+faults_denied true b c d o e = refl
+faults_denied false b c d (Some f) e = ap (λ v. option_or (fault_if v denial.BadReport) (option_or (fault_if c denial.NoPath) (fault_if d denial.Unsupported))) e
+faults_denied false b true d None e = ap (λ v. option_or (fault_if v denial.BadReport) (Some denial.NoPath)) e
+faults_denied false b false true None e = ap (λ v. option_or (fault_if v denial.BadReport) (Some denial.Unsupported)) e
+faults_denied false b false false None e = ap (λ v. option_or (fault_if v denial.BadReport) None) e
+
+placing_is : (m : PathMap) (p : Path) (from : PathMap) (source : Path) (empty : Bool) → option_map denial_of (report_fault m p from source empty) ≡ placing_denied (content_at m) p from source empty
+placing_is m p from source empty = faults_denied (same_path p []) (is_blocked (content_at m) p) (is_none (finite.get from source)) (not empty && copy_too_long from source p) (blocked (finite.get m) p) (blocked_is (finite.get m) p)
+
+-- ---- what the call for one came to
+
+none_due : (o : Option ReportError) (u : Unit {0}) → Answers o (Ok u) → o ≡ None
+none_due None u a = refl
+none_due (Some f) u a = absurd cc
+
+same_error : (f : ReportError) → Denies (Some (denial_of f)) (error_stop f)
+same_error error.Root = refl
+same_error error.NoFolder = refl
+same_error error.NotThere = refl
+same_error error.TooLong = refl
+same_error error.OutOfMemory = tt
+
+error_of : (e f : ReportError) → ◌≡◌ {A = Result (Unit {0}) ReportError} (Err e) (Err f) → f ≡ e
+error_of e f h = cc
+
+error_denies : (o : Option ReportError) (e : ReportError) → Answers o (Err e) → Denies (option_map denial_of o) (error_stop e)
+error_denies None e a = subst (λ f. Denies None (error_stop f)) (sym a) tt
+error_denies (Some f) e a = subst (λ g. Denies (Some (denial_of f)) (error_stop g)) (error_of e f a) (same_error f)
+
+-- a path was taken
+pub taken_none : (m : PathMap) (p : Path) (from : PathMap) (source : Path) (empty : Bool) (u : Unit {0}) → Answers (report_fault m p from source empty) (Ok u) → placing_denied (content_at m) p from source empty ≡ None
+taken_none m p from source empty u a = sym (placing_is m p from source empty) ∙ ap (option_map denial_of) (none_due (report_fault m p from source empty) u a)
+
+pub taken_denies : (m : PathMap) (p : Path) (from : PathMap) (source : Path) (empty : Bool) (e : ReportError) → Answers (report_fault m p from source empty) (Err e) → Denies (placing_denied (content_at m) p from source empty) (error_stop e)
+taken_denies m p from source empty e a = subst (λ o. Denies o (error_stop e)) (placing_is m p from source empty) (error_denies (report_fault m p from source empty) e a)
+
+-- a path was deleted
+root_is : (b : Bool) → option_map denial_of (due b error.Root) ≡ fault_if b denial.BadReport
+root_is true = refl
+root_is false = refl
+
+pub deleted_none : (b : Bool) (u : Unit {0}) → Answers (due b error.Root) (Ok u) → fault_if b denial.BadReport ≡ None
+deleted_none b u a = sym (root_is b) ∙ ap (option_map denial_of) (none_due (due b error.Root) u a)
+
+pub deleted_denies : (b : Bool) (e : ReportError) → Answers (due b error.Root) (Err e) → Denies (fault_if b denial.BadReport) (error_stop e)
+deleted_denies b e a = subst (λ o. Denies o (error_stop e)) (root_is b) (error_denies (due b error.Root) e a)
+
+-- ---- of a source in a revision
+
+pub source_comes : (x : Repository) (old : Known) (r : Reported) (source : Path) (tree : PathMap) (new : Known) (k m : ℕ) (result : Result (Unit {0}) Stop) → port.no_revision x r.revision ≡ None → tree ≡ tree_of x r.revision
+    → Decides (placing_denied old r.path tree source r.start_empty) (λ _. (q : Path) → new q ≡ placed old r.path (brought r.start_empty tree source) q) result
+    → Comes k m (source_denied x old r source) (λ _. (q : Path) → new q ≡ with_source x old r source q) result
+source_comes x old r source tree new k m result h t d =
+    then_decides k m (no_revision x r.revision) (placing_denied old r.path (tree_of x r.revision) source r.start_empty) (λ _. (q : Path) → new q ≡ with_source x old r source q) (λ _. (q : Path) → new q ≡ with_source x old r source q) result (is_there x r.revision h) (λ u i. i)
+    (subst (λ v. Decides (placing_denied old r.path v source r.start_empty) (λ _. (q : Path) → new q ≡ placed old r.path (brought r.start_empty v source) q) result) t d)
+
+-- ---- of a command
+
+pub taken_as : (x : Repository) (at : Url) (old new : Known) (c d : ReportCommand) (k m : ℕ) (r : Result (Unit {0}) Stop) → c ≡ d
+    → Comes k m (next_denied x at old (report_as d)) (λ _. (q : Path) → new q ≡ next_known x at old (report_as d) q) r
+    → Comes k m (next_denied x at old (report_as c)) (λ _. (q : Path) → new q ≡ next_known x at old (report_as c) q) r
+taken_as x at old new c d k m r e h = subst (λ v. Comes k m (next_denied x at old (report_as v)) (λ _. (q : Path) → new q ≡ next_known x at old (report_as v) q) r) (sym e) h

@@ -1,0 +1,20 @@
+use Rattle.std.proofs.Common.{map}
+use Rattle.std.specs.Option.{option_or}
+use Rattle.browse_wire.specs.Asks.{ask_as}
+use Rattle.browse_wire.specs.Reports.{report_as}
+use Rattle.ra_browse.specs.Tellings.{place_as}
+use Rattle.ra_report.specs.Orders.{order_denied, wanted_denied, revision_of, place_of}
+use Rattle.ra_report.specs.Reports.{reports_denied}
+use Rattle.ra_report.proofs.Calls.{denied_first}
+use Rattle.ra_report.proofs.Planning.{plan_ordered}
+use Rattle.ra_report.proofs.plan.plan_of.Goals as goal
+
+pub returns-in-Ok-clause-found : goal.returns-in-Ok-clause-found
+returns-in-Ok-clause-found g c = λ x e.
+    plan_ordered x (place_as c.args.place.now) (ask_as c.args.command.now) (map report_as c.args.report.now) c.in-Ok.order _ _ c.plan_for.result c.in-Ok.ensures.0 c.in-Ok.ensures.1 (c.plan_for.ensures.found x e)
+
+pub returns-in-Err-clause-found : goal.returns-in-Err-clause-found
+returns-in-Err-clause-found g c = λ x e.
+    let at = place_as c.args.place.now in
+    let a = ask_as c.args.command.now in
+    denied_first _ _ (order_denied at a) (option_or (wanted_denied x (revision_of a) (place_of at a)) (reports_denied x at (map report_as c.args.report.now))) c.in-Err.stop c.in-Err.ensures

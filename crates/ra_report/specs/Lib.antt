@@ -1,0 +1,5 @@
+pub mod Orders
+pub mod Reports
+pub mod Edits
+pub mod Plans
+pub mod Finishing

@@ -1,0 +1,171 @@
+//! What a command that a report follows wants.
+
+ghost use Rattle.std.specs.Prelude.{◌≡◌, Some, None};
+ghost use Rattle.std.specs.Option.{option_or};
+ghost use Rattle.browse_wire.specs.Asks.{ask_as};
+ghost use Rattle.browse_wire.specs.Depths.{word_of};
+ghost use Rattle.browse_wire.specs.Urls.{url_read};
+ghost use Rattle.node_base.specs.Path.{same_path};
+ghost use Rattle.ra_browse.specs.Answers.{url_denied, moved_to};
+ghost use Rattle.ra_browse.specs.Tellings.{place_as, url_stop, Decides};
+ghost use Rattle.ra_report.specs.Orders.{awaits_report, goes_all, part_denied, order_denied, IsOrder};
+
+use browse_wire::ask::BrowseCommand;
+use browse_wire::depth::Depth;
+use browse_wire::url::{SessionUrl, UrlFault};
+use node_base::NodePath;
+use ra_browse::{Denial, Stop};
+use std::alloc::Global;
+
+/// What is wanted: what stands at a path from the repository's root, in a revision, or in the newest where none is named.
+#[derive(Drop)]
+pub struct Order {
+    pub revision: Option<u64>,
+    pub path: NodePath,
+}
+
+/// Whether a report follows a command.
+pub fn awaits_report(command: &BrowseCommand) -> bool
+    ensures { result ≡ awaits_report (ask_as command.now) }
+{
+    match command {
+        BrowseCommand::Update(_) => true,
+        BrowseCommand::Switch(_) => true,
+        BrowseCommand::Status(_) => true,
+        BrowseCommand::Diff(_) => true,
+        _ => false,
+    }
+}
+
+/// Why no report follows a command: it isn't one that a report follows, or it wants a part of the folder, or what stands
+/// at a URL that isn't below the session's root. No repository is asked.
+pub fn ordered(alloc: Global, place: &SessionUrl, command: &BrowseCommand) -> Result<(), Stop>
+    ensures { Decides (order_denied (place_as place.now) (ask_as command.now)) (λ _. Unit {0}) result }
+{
+    match order_of(alloc, place, command) {
+        Ok(_order) => Ok(()),
+        Err(stop) => Err(stop),
+    }
+}
+
+/// The order that a command is.
+pub fn order_of(
+    alloc: Global,
+    place: &SessionUrl,
+    command: &BrowseCommand,
+) -> Result<Order, Stop>
+    ensures { Decides (order_denied (place_as place.now) (ask_as command.now))
+        (IsOrder (place_as place.now) (ask_as command.now)) result }
+{
+    match command {
+        BrowseCommand::Update(order) => {
+            here(alloc, place, &order.target, order.depth, order.revision)
+        }
+        BrowseCommand::Switch(order) => there(
+            alloc,
+            place,
+            &order.target,
+            order.depth,
+            order.url.as_slice(),
+            order.revision,
+        ),
+        BrowseCommand::Status(order) => {
+            here(alloc, place, &order.target, order.depth, order.revision)
+        }
+        BrowseCommand::Diff(order) => there(
+            alloc,
+            place,
+            &order.target,
+            order.depth,
+            order.url.as_slice(),
+            order.revision,
+        ),
+        _ => Err(Stop::Denied(Denial::Unsupported)),
+    }
+}
+
+// What stands where the session stands.
+fn here(
+    alloc: Global,
+    place: &SessionUrl,
+    target: &NodePath,
+    depth: Option<Depth>,
+    revision: Option<u64>,
+) -> Result<Order, Stop>
+    ensures { Decides (part_denied target.now (word_of depth))
+        (λ o. (o.revision ≡ revision) × (o.path ≡ place.now.path)) result }
+{
+    if let Some(why) = part_denied(target, depth) {
+        return Err(Stop::Denied(why));
+    }
+    match place.path.copy(alloc) {
+        Ok(path) => Ok(Order { revision, path }),
+        Err(_) => Err(Stop::OutOfMemory),
+    }
+}
+
+// What stands at another URL.
+fn there(
+    alloc: Global,
+    place: &SessionUrl,
+    target: &NodePath,
+    depth: Option<Depth>,
+    url: &[u8],
+    revision: Option<u64>,
+) -> Result<Order, Stop>
+    ensures { Decides (option_or (part_denied target.now (word_of depth)) (url_denied (place_as place.now) (url_read url.now)))
+        (λ o. (o.revision ≡ revision) × (o.path ≡ (moved_to (place_as place.now) (url_read url.now)).1)) result }
+{
+    if let Some(why) = part_denied(target, depth) {
+        return Err(Stop::Denied(why));
+    }
+    match path_at(alloc, place, url) {
+        Ok(path) => Ok(Order { revision, path }),
+        Err(stop) => Err(stop),
+    }
+}
+
+// Whether a part of a folder is wanted.
+fn part_denied(target: &NodePath, depth: Option<Depth>) -> Option<Denial>
+    ensures { result ≡ part_denied target.now (word_of depth) }
+{
+    if target.is_root() && goes_all(depth) {
+        return None;
+    }
+    Some(Denial::Unsupported)
+}
+
+// Whether a depth leaves nothing out.
+fn goes_all(depth: Option<Depth>) -> bool
+    ensures { result ≡ goes_all (word_of depth) }
+{
+    match depth {
+        None => true,
+        Some(Depth::Infinity) => true,
+        Some(Depth::Empty) => false,
+        Some(Depth::Files) => false,
+        Some(Depth::Immediates) => false,
+    }
+}
+
+/// The path of another URL of the session's root.
+pub fn path_at(alloc: Global, place: &SessionUrl, url: &[u8]) -> Result<NodePath, Stop>
+    ensures { Decides (url_denied (place_as place.now) (url_read url.now))
+        (λ p. p ≡ (moved_to (place_as place.now) (url_read url.now)).1) result }
+{
+    match place.path_of(alloc, url) {
+        Ok(path) => Ok(path),
+        Err(fault) => Err(stop_of(fault)),
+    }
+}
+
+// Why a URL isn't one of them.
+fn stop_of(fault: UrlFault) -> Stop
+    ensures { result ≡ url_stop fault }
+{
+    match fault {
+        UrlFault::OutOfMemory => Stop::OutOfMemory,
+        UrlFault::OtherRoot => Stop::Denied(Denial::OtherRoot),
+        _ => Stop::Denied(Denial::BadUrl),
+    }
+}

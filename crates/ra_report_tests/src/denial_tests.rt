@@ -1,0 +1,186 @@
+//! What is denied of a command, and of a report.
+
+use crate::reports::{Case, answered, order};
+use crate::site::site;
+use ra_browse::{Denial, Stop};
+use ra_serve::RepoPort;
+use std::alloc::Global;
+use std::process::Abort;
+use std::rt::HostRuntime;
+
+const NO_REVISION: &[u8] = b"( failure ( ( 160006 16:no such revision 0: 0 ) ) ) ";
+
+const NO_PATH: &[u8] = b"( failure ( ( 160013 14:path not found 0: 0 ) ) ) ";
+
+const NOT_DIR: &[u8] = b"( failure ( ( 160016 15:not a directory 0: 0 ) ) ) ";
+
+const BAD_REPORT: &[u8] = b"( failure ( ( 165004 19:bad revision report 0: 0 ) ) ) ";
+
+const UNSUPPORTED: &[u8] = b"( failure ( ( 200007 13:not supported 0: 0 ) ) ) ";
+
+const NEWEST: &[u8] = b"( update ( ( ) 0: true ) )";
+
+// Where a session stands, what it asks and reports, and what it is told.
+const ROWS: [(&[u8], &[u8], &[u8], &[u8]); 18] = [
+    (
+        b"svn://h",
+        b"( update ( ( 4 ) 0: true ) )",
+        b"( set-path ( 0: 3 true ) ) ",
+        NO_REVISION,
+    ),
+    (
+        b"svn://h",
+        b"( update ( ( 65536 ) 0: true ) )",
+        b"( set-path ( 0: 3 true ) ) ",
+        NO_REVISION,
+    ),
+    (b"svn://h", NEWEST, b"( set-path ( 0: 4 false ) ) ", NO_REVISION),
+    (
+        b"svn://h",
+        NEWEST,
+        b"( set-path ( 0: 3 false ) ) ( set-path ( 5:trunk 4 false ) ) ",
+        NO_REVISION,
+    ),
+    (b"svn://h/none", NEWEST, b"( set-path ( 0: 3 true ) ) ", NO_PATH),
+    (
+        b"svn://h/trunk/README",
+        NEWEST,
+        b"( set-path ( 0: 3 true ) ) ",
+        NOT_DIR,
+    ),
+    // nothing is at the folder in the revision that is reported, or a file is
+    (b"svn://h/trunk/new", NEWEST, b"( set-path ( 0: 2 false ) ) ", NO_PATH),
+    (
+        b"svn://h/trunk/lib",
+        b"( update ( ( 1 ) 0: true ) )",
+        b"( set-path ( 0: 3 false ) ) ",
+        NOT_DIR,
+    ),
+    (b"svn://h", NEWEST, b"", BAD_REPORT),
+    (b"svn://h", NEWEST, b"( set-path ( 5:trunk 3 false ) ) ", BAD_REPORT),
+    (b"svn://h", NEWEST, b"( delete-path ( 5:trunk ) ) ", BAD_REPORT),
+    (
+        b"svn://h",
+        NEWEST,
+        b"( set-path ( 0: 3 false ) ) ( set-path ( 0: 3 false ) ) ",
+        BAD_REPORT,
+    ),
+    (
+        b"svn://h",
+        NEWEST,
+        b"( set-path ( 0: 3 false ) ) ( delete-path ( 0: ) ) ",
+        BAD_REPORT,
+    ),
+    (
+        b"svn://h",
+        NEWEST,
+        b"( set-path ( 0: 3 true ) ) ( set-path ( 12:trunk/README 3 false ) ) ",
+        BAD_REPORT,
+    ),
+    (
+        b"svn://h",
+        NEWEST,
+        b"( set-path ( 0: 3 false ) ) ( set-path ( 3:new 3 false ) ) ",
+        NO_PATH,
+    ),
+    (
+        b"svn://h",
+        NEWEST,
+        b"( set-path ( 0: 3 false ( ) files ) ) ",
+        UNSUPPORTED,
+    ),
+    (
+        b"svn://h",
+        NEWEST,
+        b"( set-path ( 0: 3 false ) ) ( set-path ( 5:trunk 3 false ( ) empty ) ) ",
+        UNSUPPORTED,
+    ),
+    (
+        b"svn://h",
+        b"( update ( ( ) 5:trunk true ) )",
+        b"( set-path ( 0: 3 true ) ) ",
+        UNSUPPORTED,
+    ),
+];
+
+// Whether a case is told so, and no edit is.
+fn is_told<P: RepoPort>(alloc: Global, port: &mut P, case: &Case<'_>, why: &[u8]) -> bool {
+    match answered(alloc, port, case, Vec::new(alloc)) {
+        Ok((told, sent)) => !sent && told.as_slice() == why,
+        Err(_) => false,
+    }
+}
+
+// The first row that isn't told so.
+fn first_wrong<P: RepoPort>(alloc: Global, port: &mut P) -> Option<&'static [u8]> {
+    for row in &ROWS {
+        let case = Case {
+            url: row.0,
+            asked: row.1,
+            reported: row.2,
+        };
+        if !is_told(alloc, port, &case, row.3) {
+            return Some(row.2);
+        }
+    }
+    None
+}
+
+#[test]
+fn reports(rt: HostRuntime) {
+    let alloc = rt.alloc();
+    let mut port = site(alloc).expect(&rt, "memory");
+    if let Some(bytes) = first_wrong(alloc, &mut port) {
+        rt.panic(str::from_utf8(bytes).unwrap_or("bytes that are no text"));
+    }
+}
+
+// Commands, and whether a report follows them; 0 where they are ordered, or a failure's number.
+const ORDERS: [(&[u8], bool, u64); 10] = [
+    (b"( update ( ( ) 0: true ) )", true, 0),
+    (b"( update ( ( 9 ) 0: true unknown false false ) )", true, 0),
+    (b"( update ( ( ) 0: false ) )", true, 200_007),
+    (b"( update ( ( ) 1:a true ) )", true, 200_007),
+    (b"( status ( 0: true ) )", true, 0),
+    (b"( status ( 0: false ) )", true, 200_007),
+    (b"( switch ( ( ) 0: true 14:svn://h/a/b%20 ) )", true, 0),
+    (b"( switch ( ( ) 0: true 9:svn://i/a ) )", true, 170_000),
+    (b"( diff ( ( ) 0: true false 10:http://h/a ) )", true, 170_000),
+    (b"( get-latest-rev ( ) )", false, 200_007),
+];
+
+fn number_of(order: Result<(), Stop>) -> u64 {
+    match order {
+        Ok(()) => 0,
+        Err(Stop::Denied(why)) => why.number(),
+        Err(_) => 1,
+    }
+}
+
+// The first command that is ordered otherwise.
+fn first_other(alloc: Global) -> Option<&'static [u8]> {
+    for row in &ORDERS {
+        let case = Case {
+            url: b"svn://h/trunk",
+            asked: row.0,
+            reported: b"",
+        };
+        match order(alloc, &case) {
+            Some((awaits, order)) => {
+                if awaits != row.1 || number_of(order) != row.2 {
+                    return Some(row.0);
+                }
+            }
+            None => return Some(row.0),
+        }
+    }
+    None
+}
+
+#[test]
+fn orders(rt: HostRuntime) {
+    if let Some(bytes) = first_other(rt.alloc()) {
+        rt.panic(str::from_utf8(bytes).unwrap_or("bytes that are no text"));
+    }
+    assert!(rt; Denial::BadReport.number() == 165_004);
+}
