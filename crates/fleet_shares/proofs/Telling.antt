@@ -28,19 +28,13 @@ use Rattle.fleet_shares.proofs.Forgetting.{all_so}
 use Rattle.fleet_shares.proofs.Slots.{has_some}
 
 -- of a slot's store, with no refusal
-told_of : {D : Type 0} {g : _} (order : Order) (store : Option (RepoStore D g)) (has up : Bool) (a : Answer) → is_some store ≡ has → IsAnswerAt has (HasEnded g order a) order a
+told_of : {D : Type 0} {g : _} (order : Order) (store : Option (RepoStore D g)) (has up : Bool) (a : Answer) → is_some store ≡ has → IsAnswerAt has (HasEnded g order a) a
     → IsTold g order (stand None (option_map (λ s. head_of (revisions_of s)) store)) (tell (stand None (option_map (λ s. head_of (revisions_of s)) store)) up a)
 told_of order None has up a e h = refl
 told_of order (Some s) false up a e h = absurd (true≢false e)
-told_of order (Some s) true true (Ok n) e (inl ended) = (ended, refl)
-told_of order (Some s) true false (Ok n) e (inl ended) = inr (inl (refl, inr ended))
-told_of order (Some s) true true (Ok n) e (inr (inl failed)) = absurd (let is = failed.0 in cc)
-told_of order (Some s) true true (Ok n) e (inr (inr memory)) = absurd (cc)
-told_of order (Some s) true false (Ok n) e (inr (inl failed)) = absurd (let is = failed.0 in cc)
-told_of order (Some s) true false (Ok n) e (inr (inr memory)) = absurd (cc)
-told_of order (Some s) true up (Err f) e (inl ended) = inl ended
-told_of order (Some s) true up (Err f) e (inr (inl failed)) = inr (inl (let is = failed.0 in cc, inl failed.1))
-told_of order (Some s) true up (Err f) e (inr (inr memory)) = inr (inr (cc))
+told_of order (Some s) true true (Ok n) e ended = (ended, refl)
+told_of order (Some s) true false (Ok n) e ended = inr (refl, ended)
+told_of order (Some s) true up (Err f) e ended = inl ended
 
 module _ {D : Type 0} {g : _} (old new : FleetStores D g) (same : SameSlots old new) (up : ℕ → Bool) where
   told_one : (slot : ℕ) (r : Option Refusal) (a : Answer) → IsAnswerOver old (sync_order slot) a → IsTold g (sync_order slot) (stand r (head_at new slot)) (tell (stand r (head_at new slot)) (up slot) a)
@@ -103,15 +97,14 @@ named g m r0 r1 r2 r3 (suc (suc zero)) o a h = (m, (r2, h))
 named g m r0 r1 r2 r3 (suc (suc (suc zero))) o a h = (m, (r3, h))
 named g m r0 r1 r2 r3 (suc (suc (suc (suc n)))) o a h = absurd h
 
-answer_so : (b : Bool) (P Q : Type 0) (o : Order) (a : Answer) → (P → Q) → IsAnswerAt b P o a → IsAnswerAt b Q o a
-answer_so false P Q o a f h = h
-answer_so true P Q o a f (inl p) = inl (f p)
-answer_so true P Q o a f (inr x) = inr x
+answer_so : (b : Bool) (P Q : Type 0) (a : Answer) → (P → Q) → IsAnswerAt b P a → IsAnswerAt b Q a
+answer_so false P Q a f h = h
+answer_so true P Q a f p = f p
 
 over_stores : {D : Type 0} {g : _} (m r0 r1 r2 r3 : List ℕ) (stores : FleetStores D g) (opened : OpenedFleet D g) → HasOpened (is_some stores.first) (is_some stores.second) (is_some stores.third) (is_some stores.fourth) opened
     → (o : Order) (a : Answer) → IsAnswerIn (named_by m) (named_by r0) (named_by r1) (named_by r2) (named_by r3) opened o a → IsAnswerOver stores o a
 over_stores {g = g} m r0 r1 r2 r3 stores opened same o a h =
-    subst (λ b. IsAnswerAt b (HasEnded g o a) o a) (sym (has_some stores _ _ _ _ (sym same.0, sym same.1, sym same.2, sym same.3) o.mirror)) (answer_so _ _ _ o a (named g m r0 r1 r2 r3 o.mirror o a) h)
+    subst (λ b. IsAnswerAt b (HasEnded g o a) a) (sym (has_some stores _ _ _ _ (sym same.0, sym same.1, sym same.2, sym same.3) o.mirror)) (answer_so _ _ _ a (named g m r0 r1 r2 r3 o.mirror o a) h)
 
 pub answered_over : {D : Type 0} {g : _} {T E : Type 0} (m r0 r1 r2 r3 : List ℕ) (stores : FleetStores D g) (opened : OpenedFleet D g) (os : List Order) (r : Result (Vec Answer Global × T) E)
     → HasOpened (is_some stores.first) (is_some stores.second) (is_some stores.third) (is_some stores.fourth) opened
