@@ -12,7 +12,7 @@ use Rattle.node_base.specs.declared.refusal.Refusal.{Refusal}
 use Rattle.repo_core.specs.Repository.{head_of}
 use Rattle.repo_store.specs.Words.{revisions_of}
 use Rattle.repo_store.specs.declared.store.RepoStore.{RepoStore}
-use Rattle.fleet_shares.specs.Closing.{AreBroughtUp, IsBroughtUp}
+use Rattle.fleet_shares.specs.Closing.{AreBroughtUp, IsJudged, IsUnlikeIn}
 use Rattle.fleet_shares.specs.Given.{IsAnswerAt}
 use Rattle.mirror_share.specs.Names.{IsNamed}
 use Rattle.mirror_share.specs.declared.opened.OpenedMirror.{OpenedMirror}
@@ -28,21 +28,24 @@ use Rattle.fleet_shares.proofs.Forgetting.{all_so}
 use Rattle.fleet_shares.proofs.Slots.{has_some}
 
 -- of a slot's store, with no refusal
-told_of : {D : Type 0} {g : _} (order : Order) (store : Option (RepoStore D g)) (has up : Bool) (a : Answer) → is_some store ≡ has → IsAnswerAt has (HasEnded g order a) a
-    → IsTold g order (stand None (option_map (λ s. head_of (revisions_of s)) store)) (tell (stand None (option_map (λ s. head_of (revisions_of s)) store)) up a)
-told_of order None has up a e h = refl
-told_of order (Some s) false up a e h = absurd (true≢false e)
-told_of order (Some s) true true (Ok n) e ended = (ended, refl)
-told_of order (Some s) true false (Ok n) e ended = inr (refl, ended)
-told_of order (Some s) true up (Err f) e ended = inl ended
+told_of : {D : Type 0} {g : _} (Unlike : Type 0) (order : Order) (store : Option (RepoStore D g)) (has up : Bool) (a : Answer) → is_some store ≡ has → (up ≡ false → Unlike) → IsAnswerAt has (HasEnded g order a) a
+    → IsTold g Unlike order (stand None (option_map (λ s. head_of (revisions_of s)) store)) (tell (stand None (option_map (λ s. head_of (revisions_of s)) store)) up a)
+told_of Unlike order None has up a e not h = refl
+told_of Unlike order (Some s) false up a e not h = absurd (true≢false e)
+told_of Unlike order (Some s) true true (Ok n) e not ended = (ended, refl)
+told_of Unlike order (Some s) true false (Ok n) e not ended = inr (refl, (ended, not refl))
+told_of Unlike order (Some s) true up (Err f) e not ended = inl ended
 
-module _ {D : Type 0} {g : _} (old new : FleetStores D g) (same : SameSlots old new) (up : ℕ → Bool) where
-  told_one : (slot : ℕ) (r : Option Refusal) (a : Answer) → IsAnswerOver old (sync_order slot) a → IsTold g (sync_order slot) (stand r (head_at new slot)) (tell (stand r (head_at new slot)) (up slot) a)
+module _ {D : Type 0} {g : _} (old new : FleetStores D g) (same : SameSlots old new) (up : ℕ → Bool) (judged : (slot : ℕ) → IsJudged (up slot) old new slot) where
+  unlike_at : (slot : ℕ) → up slot ≡ false → IsUnlikeIn old new slot
+  unlike_at slot no = subst (λ b. IsJudged b old new slot) no (judged slot)
+
+  told_one : (slot : ℕ) (r : Option Refusal) (a : Answer) → IsAnswerOver old (sync_order slot) a → IsTold g (IsUnlikeIn old new slot) (sync_order slot) (stand r (head_at new slot)) (tell (stand r (head_at new slot)) (up slot) a)
   told_one slot (Some e) a h = refl
-  told_one slot None a h = told_of (sync_order slot) (store_at new slot) (is_some (store_at old slot)) (up slot) a (same slot) h
+  told_one slot None a h = told_of (IsUnlikeIn old new slot) (sync_order slot) (store_at new slot) (is_some (store_at old slot)) (up slot) a (same slot) (unlike_at slot) h
 
   told_all : (slot : ℕ) (rs : List (Option Refusal)) (answers : List Answer) → AllZip (IsAnswerOver old) (map sync_order (range_with_len slot (length rs))) answers
-      → AreTold g slot (stands slot rs new) (tells up slot (stands slot rs new) answers)
+      → AreTold g (IsUnlikeIn old new) slot (stands slot rs new) (tells up slot (stands slot rs new) answers)
   told_all slot [] [] h = tt
   told_all slot [] (a ∷ more) h = absurd h
   told_all slot (r ∷ rs) [] h = absurd h
@@ -50,9 +53,9 @@ module _ {D : Type 0} {g : _} (old new : FleetStores D g) (same : SameSlots old 
 
   -- of the orders of all slots
   pub all_told : (rs : List (Option Refusal)) (count : ℕ) (orders : List Order) (answers told : List Answer) → count ≡ length rs → orders ≡ map sync_order (range_with_len 0 count)
-      → AllZip (IsAnswerOver old) orders answers → told ≡ tells up 0 (stands 0 rs new) answers → AreTold g 0 (stands 0 rs new) told
+      → AllZip (IsAnswerOver old) orders answers → told ≡ tells up 0 (stands 0 rs new) answers → AreTold g (IsUnlikeIn old new) 0 (stands 0 rs new) told
   all_told rs count orders answers told counted ordered h e =
-      subst (AreTold g 0 (stands 0 rs new)) (sym e)
+      subst (AreTold g (IsUnlikeIn old new) 0 (stands 0 rs new)) (sym e)
       (told_all 0 rs answers (subst (λ os. AllZip (IsAnswerOver old) os answers) (ordered ∙ ap (λ n. map sync_order (range_with_len 0 n)) counted) h))
 
 -- a newest revision is told only of a mirror that was brought up
@@ -85,8 +88,9 @@ from_none n = omega arith
 
 -- so of all that is told
 pub all_up : {D : Type 0} {g : _} (old new : FleetStores D g) (up : ℕ → Bool) (ss : List (Result ℕ Refusal)) (answers told : List Answer) → told ≡ tells up 0 ss answers
-    → ((slot : ℕ) → up slot ≡ true → IsBroughtUp old new slot) → AreBroughtUp old new told
-all_up old new up ss answers told is h slot n at = h slot (subst (λ j. up j ≡ true) (from_none slot) (up_at up 0 slot n ss answers (ap (λ l. slice_get l slot) (sym is) ∙ at)))
+    → ((slot : ℕ) → IsJudged (up slot) old new slot) → AreBroughtUp old new told
+all_up old new up ss answers told is h slot n at =
+    subst (λ b. IsJudged b old new slot) (subst (λ j. up j ≡ true) (from_none slot) (up_at up 0 slot n ss answers (ap (λ l. slice_get l slot) (sym is) ∙ at))) (h slot)
 
 -- the answers over opened stores are those over the stores
 named : {D : Type 0} (g : Ghosts D) (m r0 r1 r2 r3 : List ℕ) (k : ℕ) (o : Order) (a : Answer)
