@@ -12,7 +12,7 @@ use Rattle.repo_core.specs.Repository.{head_of}
 use Rattle.repo_store.specs.Words.{disk_of, repository_of, revisions_of, IsKept as StoreIsKept}
 use Rattle.repo_store.specs.declared.store.RepoStore.{RepoStore}
 use Rattle.fleet_shares.specs.Agreed.{BringsUp}
-use Rattle.fleet_shares.specs.Closing.{IsBroughtUp}
+use Rattle.fleet_shares.specs.Closing.{IsBroughtUp, IsUnlikeIn, IsUnlikeNow}
 use Rattle.fleet_shares.specs.Lines.{lines_of}
 use Rattle.fleet_shares.specs.Stores.{store_at}
 use Rattle.fleet_shares.specs.Told.{stands, AreTold}
@@ -69,9 +69,19 @@ AreUp first master place answers (c ∷ cs) = IsUp first master (slice_get answe
 abbrev pub AreUpBefore : {D : Type 0} {G : Ghosts D} → FleetStores D G → FleetStores D G → ℕ → List Answer → Type 0
 AreUpBefore old new place answers = (slot n : ℕ) → slot < place → slice_get answers slot ≡ Some (Ok n) → IsBroughtUp old new slot
 
+-- a mirror that was opened is unlike its master, and why
+abbrev pub IsUnlikeAs : {D : Type 0} {G : Ghosts D} → RepoStore D G → RepoStore D G → Option (Came G) → Type 0
+IsUnlikeAs first master None = ⊥
+IsUnlikeAs first master (Some (Refused e lent)) = Unit {0}
+IsUnlikeAs first master (Some (Stood given old new)) = IsUnlikeNow first old master new
+
+-- the mirror of a slot is, of those that were opened before that place, and of those behind them
+abbrev pub IsUnlikeFrom : {D : Type 0} {G : Ghosts D} → FleetStores D G → FleetStores D G → ℕ → List (Came G) → ℕ → Type 0
+IsUnlikeFrom old new place came slot = ((slot < place) × IsUnlikeIn old new slot) ⊎ ((k : ℕ) × (slot ≡ place + k) × IsUnlikeAs old.master new.master (slice_get came k))
+
 -- what is told of the mirrors of a master, by how each was opened and how it is
 abbrev pub AreToldOf : {D : Type 0} (G : Ghosts D) → List Answer → RepoStore D G → RepoStore D G → List (Came G) → Type 0
-AreToldOf G answers first master came = AreTold G 0 (map standing came) answers × AreUp first master 0 answers came
+AreToldOf G answers first master came = AreTold G (λ slot. IsUnlikeAs first master (slice_get came slot)) 0 (map standing came) answers × AreUp first master 0 answers came
 
 -- nothing is told
 abbrev pub AreUntold : {D : Type 0} (G : Ghosts D) → RepoStore D G → RepoStore D G → List (Came G) → Type 0
@@ -82,7 +92,7 @@ pub record AreBrought {F D E : Type 0} (G : Ghosts D) (H : FolderGhosts F D) (be
   pub came : List (Came G)
   pub come : HaveCome G H before now folders came
   pub slots : (slot : ℕ) → slot < length refusals → is_some (store_at new slot) ≡ is_some (store_at old slot)
-  pub told : IfOk answers (λ told. AreTold G 0 (stands 0 refusals new ++ map standing came) told.items)
+  pub told : IfOk answers (λ told. AreTold G (IsUnlikeFrom old new (length refusals) came) 0 (stands 0 refusals new ++ map standing came) told.items)
   pub up : IfOk answers (λ told. AreUp old.master new.master (length refusals) told.items came)
   pub earlier : IfOk answers (λ told. AreUpBefore old new (length refusals) told.items)
 
