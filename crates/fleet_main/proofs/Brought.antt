@@ -18,14 +18,13 @@ use Rattle.repo_core.specs.Repository.{head_of}
 use Rattle.repo_store.specs.Words.{disk_of, repository_of, revisions_of, IsKept as StoreIsKept}
 use Rattle.repo_store.specs.declared.store.RepoStore.{RepoStore}
 use Rattle.std.specs.Prelude.{slice_get, nat_le}
-use Rattle.fleet_shares.specs.Agreed.{BringsUp}
-use Rattle.fleet_shares.specs.Closing.{AreBroughtUp, IsBroughtUp, IsUnlikeIn, IsUnlikeNow}
+use Rattle.fleet_shares.specs.Closing.{ComesOutNow, IsJudged}
 use Rattle.fleet_shares.specs.Orders.{sync_order}
 use Rattle.fleet_shares.specs.Lines.{lines_of}
 use Rattle.fleet_shares.specs.Stores.{store_at}
 use Rattle.fleet_shares.specs.Told.{head_at, stand, stands, AreTold, IsTold, SameSlots}
 use Rattle.fleet_shares.specs.declared.stores.FleetStores.{FleetStores}
-use Rattle.fleet_main.specs.Bringing.{Came, Refused, Stood, loan_of, loans_of, standing, HasCome, HaveCome, AreBrought, AreToldOf, AreUntold, AreUp, AreUpBefore, IsTelling, IsUnlikeAs, IsUnlikeFrom, IsUp, OfFleet, NotBrought}
+use Rattle.fleet_main.specs.Bringing.{Came, Refused, Stood, loan_of, loans_of, standing, HasCome, HaveCome, AreBrought, AreToldOf, AreUntold, ComesAs, IsJudgedFrom, IsTelling, OfFleet, NotBrought}
 use Rattle.fleet_main.specs.Doing.{IsOpenedIn}
 use Rattle.fleet_main.specs.Lending.{IsGiven}
 use Rattle.fleet_main.specs.Loans.{AreBack, Each, Loan, TakesBack, lent_by, only_of}
@@ -118,40 +117,42 @@ module _ {D : Type 0} {G : Ghosts D} where
           not_before at = omega (arith, at, counted, less)
       by false e = first (grind (arith, nat_tests))
 
-  -- which slots' mirrors are unlike their master, where one more folder was refused
-  unlike_refused : (old new : FleetStores D G) (place next : ℕ) (came : List (Came G)) (e : Refusal) (lent : Option (D × D)) (slot : ℕ) → next ≡ place + 1 → IsUnlikeFrom old new next came slot → IsUnlikeFrom old new place (Refused e lent ∷ came) slot
-  unlike_refused old new place next came e lent slot counted (inl u) =
-      before_next slot place next (IsUnlikeFrom old new place (Refused e lent ∷ came) slot) counted u.0 (λ less. inl (less, u.1)) (λ at. inr (0, (omega (arith, at), tt)))
-  unlike_refused old new place next came e lent slot counted (inr u) = inr (suc u.0, (omega (arith, u.1.0, counted), u.1.1))
+  -- which slots' mirrors were brought up, where one more folder was refused
+  judged_refused : (old new : FleetStores D G) (place next : ℕ) (came : List (Came G)) (e : Refusal) (lent : Option (D × D)) (slot : ℕ) (up : Bool) → next ≡ place + 1 → IsJudgedFrom old new next came slot up
+      → IsJudgedFrom old new place (Refused e lent ∷ came) slot up
+  judged_refused old new place next came e lent slot up counted (inl j) =
+      before_next slot place next (IsJudgedFrom old new place (Refused e lent ∷ came) slot up) counted j.0 (λ less. inl (less, j.1)) (λ at. inr (0, (omega (arith, at), tt)))
+  judged_refused old new place next came e lent slot up counted (inr j) = inr (suc j.0, (omega (arith, j.1.0, counted), j.1.1))
 
   -- and where one more was opened
-  unlike_now : (first master later_first later_master before after : RepoStore D G) → later_first ≡ first → later_master ≡ master → IsUnlikeNow later_first before master after → IsUnlikeNow first before later_master after
-  unlike_now first master later_first later_master before after e f u = subst (λ m. IsUnlikeNow first before m after) (sym f) (subst (λ m. IsUnlikeNow m before master after) e u)
+  module _ (up : Bool) (first master later_first later_master : RepoStore D G) (e : later_first ≡ first) (f : later_master ≡ master) where
+    out_now : (before after : RepoStore D G) → ComesOutNow up later_first before master after → ComesOutNow up first before later_master after
+    out_now before after j = subst (λ m. ComesOutNow up first before m after) (sym f) (subst (λ m. ComesOutNow up m before master after) e j)
 
-  unlike_as : (first master later_first later_master : RepoStore D G) (c : Option (Came G)) → later_first ≡ first → later_master ≡ master → IsUnlikeAs later_first master c → IsUnlikeAs first later_master c
-  unlike_as first master later_first later_master c e f u = subst (λ m. IsUnlikeAs first m c) (sym f) (subst (λ m. IsUnlikeAs m master c) e u)
+    comes_as : (c : Option (Came G)) → ComesAs later_first master c up → ComesAs first later_master c up
+    comes_as c j = subst (λ m. ComesAs first m c up) (sym f) (subst (λ m. ComesAs m master c up) e j)
 
-  unlike_opened : (old put new left : FleetStores D G) (place next : ℕ) (came : List (Came G)) (given : D) (store now : RepoStore D G) (slot : ℕ) → next ≡ place + 1 → put.master ≡ old.master → left.master ≡ new.master
+  judged_opened : (old put new left : FleetStores D G) (place next : ℕ) (came : List (Came G)) (given : D) (store now : RepoStore D G) (slot : ℕ) (up : Bool) → next ≡ place + 1 → put.master ≡ old.master → left.master ≡ new.master
       → store_at put place ≡ Some store → store_at new place ≡ Some now → ((other : ℕ) → other ≢ place → store_at put other ≡ store_at old other) → ((other : ℕ) → other ≢ place → store_at left other ≡ store_at new other)
-      → IsUnlikeFrom put new next came slot → IsUnlikeFrom old left place (Stood given store now ∷ came) slot
-  unlike_opened old put new left place next came given store now slot counted put_master left_master there there_now others others_left (inl u) =
-      before_next slot place next (IsUnlikeFrom old left place (Stood given store now ∷ came) slot) counted u.0
+      → IsJudgedFrom put new next came slot up → IsJudgedFrom old left place (Stood given store now ∷ came) slot up
+  judged_opened old put new left place next came given store now slot up counted put_master left_master there there_now others others_left (inl j) =
+      before_next slot place next (IsJudgedFrom old left place (Stood given store now ∷ came) slot up) counted j.0
       (λ less. inl (
         less,
-        λ before after was is. unlike_now old.master new.master put.master left.master before after put_master left_master
-            (u.1 before after (others slot (not_last slot place less) ∙ was) (sym (others_left slot (not_last slot place less)) ∙ is)),
+        λ before after was is. out_now up old.master new.master put.master left.master put_master left_master before after
+            (j.1 before after (others slot (not_last slot place less) ∙ was) (sym (others_left slot (not_last slot place less)) ∙ is)),
       ))
-      (λ at. inr (0, (omega (arith, at), unlike_now old.master new.master put.master left.master store now put_master left_master (u.1 store now (ap (store_at put) at ∙ there) (ap (store_at new) at ∙ there_now)))))
-  unlike_opened old put new left place next came given store now slot counted put_master left_master there there_now others others_left (inr u) =
-      inr (suc u.0, (omega (arith, u.1.0, counted), unlike_as old.master new.master put.master left.master (slice_get came u.0) put_master left_master u.1.1))
+      (λ at. inr (0, (omega (arith, at), out_now up old.master new.master put.master left.master put_master left_master store now (j.1 store now (ap (store_at put) at ∙ there) (ap (store_at new) at ∙ there_now)))))
+  judged_opened old put new left place next came given store now slot up counted put_master left_master there there_now others others_left (inr j) =
+      inr (suc j.0, (omega (arith, j.1.0, counted), comes_as up old.master new.master put.master left.master put_master left_master (slice_get came j.0) j.1.1))
 
   -- where no folder was opened before
-  unlike_all : (old new : FleetStores D G) (first master : RepoStore D G) (refusals : List (Option Refusal)) (came : List (Came G)) (slot : ℕ) → refusals ≡ [] → old.master ≡ first → master ≡ new.master → IsUnlikeFrom old new (length refusals) came slot
-      → IsUnlikeAs first master (slice_get came slot)
-  unlike_all old new first master refusals came slot none e f (inl u) = absurd (let long = ap length none in omega (arith, u.0, long))
-  unlike_all old new first master refusals came slot none e f (inr u) =
-      let at : u.0 ≡ slot = (let long = ap length none in omega (arith, u.1.0, long)) in
-      unlike_as first new.master old.master master (slice_get came slot) e f (subst (λ k. IsUnlikeAs old.master new.master (slice_get came k)) at u.1.1)
+  judged_all : (old new : FleetStores D G) (first master : RepoStore D G) (refusals : List (Option Refusal)) (came : List (Came G)) (slot : ℕ) (up : Bool) → refusals ≡ [] → old.master ≡ first → master ≡ new.master
+      → IsJudgedFrom old new (length refusals) came slot up → ComesAs first master (slice_get came slot) up
+  judged_all old new first master refusals came slot up none e f (inl j) = absurd (let long = ap length none in omega (arith, j.0, long))
+  judged_all old new first master refusals came slot up none e f (inr j) =
+      let at : j.0 ≡ slot = (let long = ap length none in omega (arith, j.1.0, long)) in
+      comes_as up first new.master old.master master e f (slice_get came slot) (subst (λ k. ComesAs old.master new.master (slice_get came k) up) at j.1.1)
 
   stands_same : (k : ℕ) (rs : List (Option Refusal)) (s t : FleetStores D G) → ((n : ℕ) → n < k + length rs → store_at s n ≡ store_at t n) → stands k rs s ≡ stands k rs t
   stands_same k [] s t same = refl
@@ -163,39 +164,24 @@ module _ {D : Type 0} {G : Ghosts D} where
   some_of None e = absurd (true≢false (sym e))
   some_of (Some s) e = (s, refl)
 
--- what is told where slots' mirrors are unlike their master, of slots where they are so too
-is_told_so : {D : Type 0} (G : Ghosts D) (P Q : Type 0) (order : Order) (s : Result ℕ Refusal) (a : Answer) → (P → Q) → IsTold G P order s a → IsTold G Q order s a
+-- what is told by whether slots' mirrors were brought up is so by what follows from that
+is_told_so : {D : Type 0} (G : Ghosts D) (P Q : Bool → Type 0) (order : Order) (s : Result ℕ Refusal) (a : Answer) → ((up : Bool) → P up → Q up) → IsTold G P order s a → IsTold G Q order s a
 is_told_so G P Q order (Err e) a f h = h
-is_told_so G P Q order (Ok head) (Ok n) f h = h
+is_told_so G P Q order (Ok head) (Ok n) f h = (h.0, (h.1, f true h.2))
 is_told_so G P Q order (Ok head) (Err e) f (inl h) = inl h
-is_told_so G P Q order (Ok head) (Err e) f (inr h) = inr (h.0, (h.1, f h.2))
+is_told_so G P Q order (Ok head) (Err e) f (inr h) = inr (h.0, (h.1, f false h.2))
 
-told_so : {D : Type 0} (G : Ghosts D) (P Q : ℕ → Type 0) (slot : ℕ) (ss : List (Result ℕ Refusal)) (as' : List Answer) → ((n : ℕ) → n < slot + length ss → P n → Q n) → AreTold G P slot ss as' → AreTold G Q slot ss as'
+told_so : {D : Type 0} (G : Ghosts D) (P Q : ℕ → Bool → Type 0) (slot : ℕ) (ss : List (Result ℕ Refusal)) (as' : List Answer) → ((n : ℕ) → n < slot + length ss → (up : Bool) → P n up → Q n up) → AreTold G P slot ss as' → AreTold G Q slot ss as'
 told_so G P Q slot [] [] f h = tt
 told_so G P Q slot [] (a ∷ as') f h = absurd h
 told_so G P Q slot (s ∷ ss) [] f h = absurd h
 told_so G P Q slot (s ∷ ss) (a ∷ as') f h =
     (is_told_so G (P slot) (Q slot) (sync_order slot) s a (f slot (omega arith)) h.0, told_so G P Q (slot + 1) ss as' (λ n less. f n (omega (arith, less))) h.1)
 
-told_by : {D E : Type 0} (G : Ghosts D) (P Q : ℕ → Type 0) (r : Result (Vec Answer Global) E) (ss ts : List (Result ℕ Refusal)) → ss ≡ ts → ((n : ℕ) → n < length ss → P n → Q n) → IfOk r (λ told. AreTold G P 0 ss told.items) → IfOk r (λ told. AreTold G Q 0 ts told.items)
+told_by : {D E : Type 0} (G : Ghosts D) (P Q : ℕ → Bool → Type 0) (r : Result (Vec Answer Global) E) (ss ts : List (Result ℕ Refusal)) → ss ≡ ts → ((n : ℕ) → n < length ss → (up : Bool) → P n up → Q n up) → IfOk r (λ told. AreTold G P 0 ss told.items)
+    → IfOk r (λ told. AreTold G Q 0 ts told.items)
 told_by G P Q (Ok told) ss ts e f h = subst (λ k. AreTold G Q 0 k told.items) e (told_so G P Q 0 ss told.items (λ n less. f n (omega (arith, less))) h)
 told_by G P Q (Err x) ss ts e f h = tt
-
--- what holds of told answers, if others hold of them
-told_with : {E : Type 0} (r : Result (Vec Answer Global) E) (P Q : List Answer → Type 0) → ((as' : List Answer) → P as' → Q as') → IfOk r (λ told. P told.items) → IfOk r (λ told. Q told.items)
-told_with (Ok told) P Q f h = f told.items h
-told_with (Err x) P Q f h = tt
-
-told_both : {E : Type 0} (r : Result (Vec Answer Global) E) (P Q R : List Answer → Type 0) → ((as' : List Answer) → P as' → Q as' → R as') → IfOk r (λ told. P told.items) → IfOk r (λ told. Q told.items) → IfOk r (λ told. R told.items)
-told_both (Ok told) P Q R f h k = f told.items h k
-told_both (Err x) P Q R f h k = tt
-
--- a mirror's answer in its place
-up_in : {D : Type 0} {G : Ghosts D} (first master old new : RepoStore D G) (given : D) (o : Option Answer) → ((n : ℕ) → o ≡ Some (Ok n) → BringsUp (repository_of first) (repository_of old) (repository_of master) (repository_of new))
-    → IsUp {G = G} first master o (Stood given old new)
-up_in first master old new given None h = tt
-up_in first master old new given (Some (Ok n)) h = h n refl
-up_in first master old new given (Some (Err f)) h = tt
 
 module _ {F D : Type 0} (G : Ghosts D) (H : FolderGhosts F D) where
   -- where one folder is left as it was, and then others
@@ -292,16 +278,14 @@ module _ {F D : Type 0} (G : Ghosts D) (H : FolderGhosts F D) where
 
   -- the fleet is run where no folder is left
   pub brought_none : {E : Type 0} (folders : F) (names : List (List ℕ)) (refusals : List (Option Refusal)) (old new : FleetStores D G) (answers : Result (Vec Answer Global) E) → names ≡ []
-      → SameSlots old new → IfOk answers (λ told. AreTold G (IsUnlikeIn old new) 0 (stands 0 refusals new) told.items) → IfOk answers (λ told. AreBroughtUp old new told.items) → AreBrought G H folders folders names refusals old new answers
-  brought_none folders names refusals old new answers none same told up =
+      → SameSlots old new → IfOk answers (λ told. AreTold G (IsJudged old new) 0 (stands 0 refusals new) told.items) → AreBrought G H folders folders names refusals old new answers
+  brought_none folders names refusals old new answers none same told =
       subst (λ ns. AreBrought G H folders folders ns refusals old new answers) (sym none) (record {
         came = [];
         come = record { each = tt; back = λ rules. none_lent G H folders; later = omega arith };
         slots = λ slot less. same slot;
-        told = told_by G (IsUnlikeIn old new) (IsUnlikeFrom old new (length refusals) []) answers _ _ (sym (append-nil (stands 0 refusals new)))
-            (λ n less u. inl (let long = stands_long 0 refusals new in omega (arith, less, long), u)) told;
-        up = told_with answers (AreBroughtUp old new) (λ as'. AreUp old.master new.master (length refusals) as' []) (λ as' h. tt) up;
-        earlier = told_with answers (AreBroughtUp old new) (AreUpBefore old new (length refusals)) (λ as' h slot n less at. h slot n at) up;
+        told = told_by G (IsJudged old new) (IsJudgedFrom old new (length refusals) []) answers _ _ (sym (append-nil (stands 0 refusals new)))
+            (λ n less up j. inl (let long = stands_long 0 refusals new in omega (arith, less, long), j)) told;
       })
 
   module _ {E : Type 0} (folders mid now : F) (name : List ℕ) (names : List (List ℕ)) (refusals more : List (Option Refusal)) (answers : Result (Vec Answer Global) E) where
@@ -314,15 +298,11 @@ module _ {F D : Type 0} (G : Ghosts D) (H : FolderGhosts F D) where
           came = Refused e u.0 ∷ b.came;
           come = u.1;
           slots = λ slot less. b.slots slot (before_last slot (length refusals) (length more) (ap length pushed ∙ length-append refusals (Some e ∷ [])) less);
-          told = told_by G (IsUnlikeFrom old new (length more) b.came) (IsUnlikeFrom old new (length refusals) (Refused e u.0 ∷ b.came)) answers _ _
+          told = told_by G (IsJudgedFrom old new (length more) b.came) (IsJudgedFrom old new (length refusals) (Refused e u.0 ∷ b.came)) answers _ _
               (ap (λ rs. stands 0 rs new ++ map standing b.came) pushed
               ∙ (ap (λ ss. ss ++ map standing b.came) (stands_snoc 0 refusals (Some e) new)
               ∙ append_assoc (stands 0 refusals new) (Err e ∷ []) (map standing b.came)))
-              (λ n less h. unlike_refused old new (length refusals) (length more) b.came e u.0 n (ap length pushed ∙ length-append refusals (Some e ∷ [])) h) b.told;
-          up = told_with answers (λ as'. AreUp old.master new.master (length more) as' b.came) (λ as'. AreUp old.master new.master (length refusals) as' (Refused e u.0 ∷ b.came))
-              (λ as' h. (tt, subst (λ k. AreUp old.master new.master k as' b.came) (ap length pushed ∙ length-append refusals (Some e ∷ [])) h)) b.up;
-          earlier = told_with answers (AreUpBefore old new (length more)) (AreUpBefore old new (length refusals))
-              (λ as' h slot n less at. h slot n (before_last slot (length refusals) (length more) (ap length pushed ∙ length-append refusals (Some e ∷ [])) less) at) b.earlier;
+              (λ n less up j. judged_refused old new (length refusals) (length more) b.came e u.0 n up (ap length pushed ∙ length-append refusals (Some e ∷ [])) j) b.told;
         }
 
     -- one is opened, in the slot behind the others
@@ -340,24 +320,13 @@ module _ {F D : Type 0} (G : Ghosts D) (H : FolderGhosts F D) where
           slots = λ slot less.
               ap is_some (others_left slot (not_last slot (length refusals) less))
               ∙ (b.slots slot (before_last slot (length refusals) (length more) counted less) ∙ ap is_some (others slot (not_last slot (length refusals) less)));
-          told = told_by G (IsUnlikeFrom put new (length more) b.came) (IsUnlikeFrom old left (length refusals) (Stood o.0 store s.0 ∷ b.came)) answers _ _
+          told = told_by G (IsJudgedFrom put new (length more) b.came) (IsJudgedFrom old left (length refusals) (Stood o.0 store s.0 ∷ b.came)) answers _ _
               (ap (λ rs. stands 0 rs new ++ map standing b.came) pushed
               ∙ (ap (λ ss. ss ++ map standing b.came) (stands_snoc 0 refusals None new)
               ∙ (ap (λ x. (stands 0 refusals new ++ stand None (option_map (λ r. head_of (revisions_of r)) x) ∷ []) ++ map standing b.came) (ap (store_at new) (from_none (length refusals)) ∙ s.1)
               ∙ (append_assoc (stands 0 refusals new) (Ok (head_of (revisions_of s.0)) ∷ []) (map standing b.came)
               ∙ ap (λ ss. ss ++ Ok (head_of (revisions_of s.0)) ∷ map standing b.came) (stands_same 0 refusals new left (λ n less. sym (others_left n (not_last n (length refusals) (to_none n (length refusals) less)))))))))
-              (λ n less h. unlike_opened old put new left (length refusals) (length more) b.came o.0 store s.0 n counted put_master left_master there s.1 others others_left h) b.told;
-          up = told_both answers (λ as'. AreUp put.master new.master (length more) as' b.came) (AreUpBefore put new (length more)) (λ as'. AreUp old.master left.master (length refusals) as' (Stood o.0 store s.0 ∷ b.came))
-              (λ as' h early. subst (λ m. AreUp old.master m (length refusals) as' (Stood o.0 store s.0 ∷ b.came)) (sym left_master)
-              (subst (λ m. AreUp m new.master (length refusals) as' (Stood o.0 store s.0 ∷ b.came)) put_master (
-                up_in put.master new.master store s.0 o.0 (slice_get as' (length refusals)) (λ n at. early (length refusals) n (last_place (length refusals) (length more) counted) at store s.0 there s.1),
-                subst (λ k. AreUp put.master new.master k as' b.came) counted h,
-              ))) b.up b.earlier;
-          earlier = told_with answers (AreUpBefore put new (length more)) (AreUpBefore old left (length refusals))
-              (λ as' early slot n less at before after was is.
-              subst (λ m. BringsUp (repository_of old.master) (repository_of before) (repository_of m) (repository_of after)) (sym left_master)
-              (subst (λ m. BringsUp (repository_of m) (repository_of before) (repository_of new.master) (repository_of after)) put_master
-              (early slot n (before_last slot (length refusals) (length more) counted less) at before after (others slot (not_last slot (length refusals) less) ∙ was) (sym (others_left slot (not_last slot (length refusals) less)) ∙ is)))) b.earlier;
+              (λ n less up j. judged_opened old put new left (length refusals) (length more) b.came o.0 store s.0 n up counted put_master left_master there s.1 others others_left j) b.told;
         }
 
     pub brought_opened_at : (last : F) (store : RepoStore D G) (old put new left : FleetStores D G) (slot : ℕ) → slot ≡ length refusals → put.master ≡ old.master → left.master ≡ new.master → IsOpenedIn G H folders mid name store → KeptThen store
@@ -389,12 +358,8 @@ module _ {F D : Type 0} (G : Ghosts D) (H : FolderGhosts F D) where
     new = new_store;
     came = b.came;
     come = stood_then folders mid now master names b.came last store new_store o k kept b.come t;
-    done = told_both answers (AreTold G (λ slot. IsUnlikeAs store new_store (slice_get b.came slot)) 0 (map standing b.came)) (λ as'. AreUp store new_store 0 as' b.came) (λ as'. AreToldOf G as' store new_store b.came) (λ as' h up. (h, up))
-        (told_by G (IsUnlikeFrom old new (length refusals) b.came) (λ slot. IsUnlikeAs store new_store (slice_get b.came slot)) answers _ _ (ap (λ rs. stands 0 rs new ++ map standing b.came) none)
-        (λ n less h. unlike_all old new store new_store refusals b.came n none first last_store h) b.told)
-        (told_with answers (λ as'. AreUp old.master new.master (length refusals) as' b.came) (λ as'. AreUp store new_store 0 as' b.came)
-        (λ as' h. subst (λ m. AreUp store m 0 as' b.came) (sym last_store)
-        (subst (λ m. AreUp m new.master 0 as' b.came) first (subst (λ rs. AreUp old.master new.master (length rs) as' b.came) none h))) b.up);
+    done = told_by G (IsJudgedFrom old new (length refusals) b.came) (λ slot. ComesAs store new_store (slice_get b.came slot)) answers _ _ (ap (λ rs. stands 0 rs new ++ map standing b.came) none)
+        (λ n less up j. judged_all old new store new_store refusals b.came n up none first last_store j) b.told;
   }
 
   fleet_as : (folders later : F) (master : List ℕ) (names : List (List ℕ)) (P Q : RepoStore D G → RepoStore D G → List (Came G) → Type 0) → ((a b : RepoStore D G) (cs : List (Came G)) → P a b cs → Q a b cs)

@@ -1,7 +1,8 @@
 -- Changes that are the same.
-use Rattle.std.proofs.Common.{◌≡◌, ◌<◌, ◌+◌, ◌↔◌, ℕ, Bool, true, false, true≢false, IsTrue, List, [], ◌∷◌, ◌&&◌, length, take, get_or, Option, Some, None, nat_eq, eqb-true, refl, sym, ap, ◌∙◌}
+use Rattle.std.proofs.Common.{◌≡◌, ◌<◌, ◌+◌, ◌↔◌, ℕ, Bool, true, false, true≢false, IsTrue, List, length, take, get_or, Option, Some, None, nat_eq, sym, ap, subst, ◌∙◌}
 use Rattle.std.specs.Cmp.Lexicographic.{pointwise}
 use Rattle.std.proofs.lemmas.List.{take_more_same}
+use Rattle.std.proofs.lemmas.Slice.Eq.{bytes_eq-Decides}
 use Rattle.node_base.specs.Path.{Path, same_path}
 use Rattle.node_base.specs.declared.node.Source.{Source}
 use Rattle.node_base.proofs.PathLemmas.{path_of_same, same_path_itself}
@@ -30,25 +31,8 @@ same_some {A} x y t h = ((λ u. ap Some (h.0 u)), (λ e. h.1 (ap (of x) e)))
     of d None = d
 
 -- of bytes
-both : (a b : Bool) → (a && b) ≡ true → (a ≡ true) × (b ≡ true)
-both true b e = (refl, e)
-both false b e = absurd (true≢false (sym e))
-
-bytes_of_same : (a b : List ℕ) → pointwise nat_eq a b ≡ true → a ≡ b
-bytes_of_same [] [] e = refl
-bytes_of_same [] (y ∷ b) e = cc
-bytes_of_same (x ∷ a) [] e = cc
-bytes_of_same (x ∷ a) (y ∷ b) e = let h = both _ _ e in cc (eqb-true x y h.0, bytes_of_same a b h.1)
-
-eq_itself : (n : ℕ) → nat_eq n n ≡ true
-eq_itself n = search
-
-bytes_itself : (a : List ℕ) → pointwise nat_eq a a ≡ true
-bytes_itself [] = refl
-bytes_itself (x ∷ a) = ap (λ b. b && pointwise nat_eq a a) (eq_itself x) ∙ bytes_itself a
-
 pub same_bytes : (a b : List ℕ) (t : Bool) → t ≡ pointwise nat_eq a b → IsTrue t ↔ (a ≡ b)
-same_bytes a b t is = ((λ u. bytes_of_same a b (sym is ∙ u)), (λ e. is ∙ (ap (pointwise nat_eq a) (sym e) ∙ bytes_itself a)))
+same_bytes a b t is = subst (λ z. IsTrue z ↔ (a ≡ b)) (sym is) (bytes_eq-Decides a b)
 
 -- one more of two lists
 pub same_more : (xs ys : List Change) (i : ℕ) (x y : Change) → take i xs ≡ take i ys → i < length xs → i < length ys → x ≡ get_or xs i x → y ≡ get_or ys i y → x ≡ y → take (i + 1) xs ≡ take (i + 1) ys

@@ -16,7 +16,7 @@ use Rattle.store_share.specs.declared.name.RowName.{Ghosts as RowGhosts}
 use Rattle.store_share.specs.declared.opened.OpenedStore.{OpenedStore}
 use Rattle.store_share.specs.declared.seat.ReaderSeat.{ReaderSeat}
 use Rattle.fleet_shares.specs.Agreed.{Adds, BringsUp, IsAddedTo, IsFront, IsOther}
-use Rattle.fleet_shares.specs.Closing.{brings_at, ComesOut, HasStayed, IsBroughtBy, IsBroughtIn, IsBroughtSince, IsJudged, IsLost, IsReadBy, IsSettled, IsUnlike}
+use Rattle.fleet_shares.specs.Closing.{brings_at, ComesOut, ComesOutNow, HasStayed, IsBroughtBy, IsBroughtIn, IsBroughtSince, IsJudged, IsLost, IsReadBy, IsSettled, IsUnlike}
 use Rattle.fleet_shares.specs.Opening.{stored_in, IsOpenedFrom}
 use Rattle.fleet_shares.specs.Ran.{named_by}
 use Rattle.fleet_shares.specs.Stores.{store_at}
@@ -131,16 +131,19 @@ came_out {D = D} {g = g} m r up first (Some o) given master slot (Some s) same f
 
 module _ {D : Type 0} {g : _} (m r0 r1 r2 r3 : List ℕ) (stores new : FleetStores D g) (opened : OpenedFleet D g) (from : IsOpenedFrom stores.master stores.first stores.second stores.third stores.fourth opened) where
   -- whatever cells the rows have
-  judged : (r : List ℕ) (up : Bool) (slot : ℕ) → ((before after : RepoStore D g) → store_at stores slot ≡ Some before → store_at new slot ≡ Some after → ComesOut (named_by m) (named_by r) up stores.master before new.master after) → IsJudged up stores new slot
-  judged r true slot h = h
-  judged r false slot h = λ before after was there. (m, (r, h before after was there))
+  now_out : (r : List ℕ) (up : Bool) (w x y z : RepoStore D g) → ComesOut (named_by m) (named_by r) up w x y z → ComesOutNow up w x y z
+  now_out r true w x y z h = h
+  now_out r false w x y z h = (m, (r, h))
+
+  judged : (r : List ℕ) (up : Bool) (slot : ℕ) → ((before after : RepoStore D g) → store_at stores slot ≡ Some before → store_at new slot ≡ Some after → ComesOut (named_by m) (named_by r) up stores.master before new.master after) → IsJudged stores new slot up
+  judged r up slot h = λ before after was there. now_out r up stores.master before new.master after (h before after was there)
 
   no_slot : (before : RepoStore D g) (P : Type 0) → None ≡ Some before → P
   no_slot before P e = absurd (cc)
 
   brought_slots : (b : Brings) → IsBroughtIn (named_by m) (named_by r0) b.first opened.master opened.first new.master new.first → IsBroughtIn (named_by m) (named_by r1) b.second opened.master opened.second new.master new.second
       → IsBroughtIn (named_by m) (named_by r2) b.third opened.master opened.third new.master new.third → IsBroughtIn (named_by m) (named_by r3) b.fourth opened.master opened.fourth new.master new.fourth
-      → (slot : ℕ) → IsJudged (brings_at b slot) stores new slot
+      → (slot : ℕ) → IsJudged stores new slot (brings_at b slot)
   brought_slots b h k i j zero = judged r0 b.first 0 (came_out (named_by m) (named_by r0) b.first opened.master opened.first stores.master new.master stores.first new.first from.0 from.1 h)
   brought_slots b h k i j (suc zero) = judged r1 b.second 1 (came_out (named_by m) (named_by r1) b.second opened.master opened.second stores.master new.master stores.second new.second from.0 from.2 k)
   brought_slots b h k i j (suc (suc zero)) = judged r2 b.third 2 (came_out (named_by m) (named_by r2) b.third opened.master opened.third stores.master new.master stores.third new.third from.0 from.3 i)
@@ -150,6 +153,6 @@ module _ {D : Type 0} {g : _} (m r0 r1 r2 r3 : List ℕ) (stores new : FleetStor
   pub brought_over : {T E : Type 0} (r : Result (T × Brings) E) → IfOk r (λ ran. IsBroughtIn (named_by m) (named_by r0) ran.1.first opened.master opened.first new.master new.first)
       → IfOk r (λ ran. IsBroughtIn (named_by m) (named_by r1) ran.1.second opened.master opened.second new.master new.second)
       → IfOk r (λ ran. IsBroughtIn (named_by m) (named_by r2) ran.1.third opened.master opened.third new.master new.third)
-      → IfOk r (λ ran. IsBroughtIn (named_by m) (named_by r3) ran.1.fourth opened.master opened.fourth new.master new.fourth) → IfOk r (λ ran. (slot : ℕ) → IsJudged (brings_at ran.1 slot) stores new slot)
+      → IfOk r (λ ran. IsBroughtIn (named_by m) (named_by r3) ran.1.fourth opened.master opened.fourth new.master new.fourth) → IfOk r (λ ran. (slot : ℕ) → IsJudged stores new slot (brings_at ran.1 slot))
   brought_over (Ok ran) h k i j = brought_slots ran.1 h k i j
   brought_over (Err e) h k i j = tt

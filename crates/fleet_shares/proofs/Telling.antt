@@ -1,7 +1,6 @@
 -- What is told of each mirror is so of its answer and of its store.
 use Rattle.std.proofs.Common.{◌≡◌, inl, inr, ℕ, zero, suc, ◌+◌, Bool, true, false, List, [], ◌∷◌, ◌++◌, append_assoc, length, map, Option, Some, None, Result, Ok, Err, IfOk, IfSome, Vec, is_some, refl, sym, ap, subst, ◌∙◌, arith}
 use Rattle.std.specs.List.{AllZip, range_with_len}
-use Rattle.std.specs.Prelude.{slice_get}
 use Rattle.std.specs.Option.{option_map, option_to_list}
 use Rattle.std.specs.declared.alloc.Global.{Global}
 use Rattle.std.proofs.lemmas.Bool.{true≢false}
@@ -12,7 +11,7 @@ use Rattle.node_base.specs.declared.refusal.Refusal.{Refusal}
 use Rattle.repo_core.specs.Repository.{head_of}
 use Rattle.repo_store.specs.Words.{revisions_of}
 use Rattle.repo_store.specs.declared.store.RepoStore.{RepoStore}
-use Rattle.fleet_shares.specs.Closing.{AreBroughtUp, IsJudged, IsUnlikeIn}
+use Rattle.fleet_shares.specs.Closing.{IsJudged}
 use Rattle.fleet_shares.specs.Given.{IsAnswerAt}
 use Rattle.mirror_share.specs.Names.{IsNamed}
 use Rattle.mirror_share.specs.declared.opened.OpenedMirror.{OpenedMirror}
@@ -28,24 +27,21 @@ use Rattle.fleet_shares.proofs.Forgetting.{all_so}
 use Rattle.fleet_shares.proofs.Slots.{has_some}
 
 -- of a slot's store, with no refusal
-told_of : {D : Type 0} {g : _} (Unlike : Type 0) (order : Order) (store : Option (RepoStore D g)) (has up : Bool) (a : Answer) → is_some store ≡ has → (up ≡ false → Unlike) → IsAnswerAt has (HasEnded g order a) a
-    → IsTold g Unlike order (stand None (option_map (λ s. head_of (revisions_of s)) store)) (tell (stand None (option_map (λ s. head_of (revisions_of s)) store)) up a)
-told_of Unlike order None has up a e not h = refl
-told_of Unlike order (Some s) false up a e not h = absurd (true≢false e)
-told_of Unlike order (Some s) true true (Ok n) e not ended = (ended, refl)
-told_of Unlike order (Some s) true false (Ok n) e not ended = inr (refl, (ended, not refl))
-told_of Unlike order (Some s) true up (Err f) e not ended = inl ended
+told_of : {D : Type 0} {g : _} (Judged : Bool → Type 0) (order : Order) (store : Option (RepoStore D g)) (has up : Bool) (a : Answer) → is_some store ≡ has → Judged up → IsAnswerAt has (HasEnded g order a) a
+    → IsTold g Judged order (stand None (option_map (λ s. head_of (revisions_of s)) store)) (tell (stand None (option_map (λ s. head_of (revisions_of s)) store)) up a)
+told_of Judged order None has up a e j h = refl
+told_of Judged order (Some s) false up a e j h = absurd (true≢false e)
+told_of Judged order (Some s) true true (Ok n) e j ended = (ended, (refl, j))
+told_of Judged order (Some s) true false (Ok n) e j ended = inr (refl, (ended, j))
+told_of Judged order (Some s) true up (Err f) e j ended = inl ended
 
-module _ {D : Type 0} {g : _} (old new : FleetStores D g) (same : SameSlots old new) (up : ℕ → Bool) (judged : (slot : ℕ) → IsJudged (up slot) old new slot) where
-  unlike_at : (slot : ℕ) → up slot ≡ false → IsUnlikeIn old new slot
-  unlike_at slot no = subst (λ b. IsJudged b old new slot) no (judged slot)
-
-  told_one : (slot : ℕ) (r : Option Refusal) (a : Answer) → IsAnswerOver old (sync_order slot) a → IsTold g (IsUnlikeIn old new slot) (sync_order slot) (stand r (head_at new slot)) (tell (stand r (head_at new slot)) (up slot) a)
+module _ {D : Type 0} {g : _} (old new : FleetStores D g) (same : SameSlots old new) (up : ℕ → Bool) (judged : (slot : ℕ) → IsJudged old new slot (up slot)) where
+  told_one : (slot : ℕ) (r : Option Refusal) (a : Answer) → IsAnswerOver old (sync_order slot) a → IsTold g (IsJudged old new slot) (sync_order slot) (stand r (head_at new slot)) (tell (stand r (head_at new slot)) (up slot) a)
   told_one slot (Some e) a h = refl
-  told_one slot None a h = told_of (IsUnlikeIn old new slot) (sync_order slot) (store_at new slot) (is_some (store_at old slot)) (up slot) a (same slot) (unlike_at slot) h
+  told_one slot None a h = told_of (IsJudged old new slot) (sync_order slot) (store_at new slot) (is_some (store_at old slot)) (up slot) a (same slot) (judged slot) h
 
   told_all : (slot : ℕ) (rs : List (Option Refusal)) (answers : List Answer) → AllZip (IsAnswerOver old) (map sync_order (range_with_len slot (length rs))) answers
-      → AreTold g (IsUnlikeIn old new) slot (stands slot rs new) (tells up slot (stands slot rs new) answers)
+      → AreTold g (IsJudged old new) slot (stands slot rs new) (tells up slot (stands slot rs new) answers)
   told_all slot [] [] h = tt
   told_all slot [] (a ∷ more) h = absurd h
   told_all slot (r ∷ rs) [] h = absurd h
@@ -53,44 +49,10 @@ module _ {D : Type 0} {g : _} (old new : FleetStores D g) (same : SameSlots old 
 
   -- of the orders of all slots
   pub all_told : (rs : List (Option Refusal)) (count : ℕ) (orders : List Order) (answers told : List Answer) → count ≡ length rs → orders ≡ map sync_order (range_with_len 0 count)
-      → AllZip (IsAnswerOver old) orders answers → told ≡ tells up 0 (stands 0 rs new) answers → AreTold g (IsUnlikeIn old new) 0 (stands 0 rs new) told
+      → AllZip (IsAnswerOver old) orders answers → told ≡ tells up 0 (stands 0 rs new) answers → AreTold g (IsJudged old new) 0 (stands 0 rs new) told
   all_told rs count orders answers told counted ordered h e =
-      subst (AreTold g (IsUnlikeIn old new) 0 (stands 0 rs new)) (sym e)
+      subst (AreTold g (IsJudged old new) 0 (stands 0 rs new)) (sym e)
       (told_all 0 rs answers (subst (λ os. AllZip (IsAnswerOver old) os answers) (ordered ∙ ap (λ n. map sync_order (range_with_len 0 n)) counted) h))
-
--- a newest revision is told only of a mirror that was brought up
-told_up : (s : Result ℕ Refusal) (b : Bool) (a : Answer) (n : ℕ) → tell s b a ≡ Ok n → b ≡ true
-told_up (Err e) b a n is = absurd (cc)
-told_up (Ok head) true (Ok k) n is = refl
-told_up (Ok head) false (Ok k) n is = absurd (cc)
-told_up (Ok head) b (Err f) n is = absurd (cc)
-
-next_up : (s : Result ℕ Refusal) (b : Bool) (o : Option Answer) (n : ℕ) → tell_next s b o ≡ Ok n → b ≡ true
-next_up s b None n is = absurd (cc)
-next_up s b (Some a) n is = told_up s b a n is
-
-same_answer : (a b : Answer) → Some a ≡ Some b → a ≡ b
-same_answer a b e = ap (λ o. get_or_this a o) e
-  where
-    get_or_this : Answer → Option Answer → Answer
-    get_or_this d (Some x) = x
-    get_or_this d None = d
-
-up_at : (up : ℕ → Bool) (k i n : ℕ) (ss : List (Result ℕ Refusal)) (answers : List Answer) → slice_get (tells up k ss answers) i ≡ Some (Ok n) → up (k + i) ≡ true
-up_at up k i n [] answers is = absurd (cc)
-up_at up k zero n (s ∷ ss) [] is = subst (λ j. up j ≡ true) (omega arith) (next_up s (up k) None n (same_answer _ _ is))
-up_at up k zero n (s ∷ ss) (a ∷ more) is = subst (λ j. up j ≡ true) (omega arith) (next_up s (up k) (Some a) n (same_answer _ _ is))
-up_at up k (suc i) n (s ∷ ss) [] is = subst (λ j. up j ≡ true) (omega arith) (up_at up (k + 1) i n ss [] is)
-up_at up k (suc i) n (s ∷ ss) (a ∷ more) is = subst (λ j. up j ≡ true) (omega arith) (up_at up (k + 1) i n ss more is)
-
-from_none : (n : ℕ) → 0 + n ≡ n
-from_none n = omega arith
-
--- so of all that is told
-pub all_up : {D : Type 0} {g : _} (old new : FleetStores D g) (up : ℕ → Bool) (ss : List (Result ℕ Refusal)) (answers told : List Answer) → told ≡ tells up 0 ss answers
-    → ((slot : ℕ) → IsJudged (up slot) old new slot) → AreBroughtUp old new told
-all_up old new up ss answers told is h slot n at =
-    subst (λ b. IsJudged b old new slot) (subst (λ j. up j ≡ true) (from_none slot) (up_at up 0 slot n ss answers (ap (λ l. slice_get l slot) (sym is) ∙ at))) (h slot)
 
 -- the answers over opened stores are those over the stores
 named : {D : Type 0} (g : Ghosts D) (m r0 r1 r2 r3 : List ℕ) (k : ℕ) (o : Order) (a : Answer)

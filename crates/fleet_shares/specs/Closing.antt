@@ -1,6 +1,5 @@
 -- What comes of a fleet's stores.
-use Rattle.std.specs.Prelude.{◌≡◌, ◌⊎◌, ◌<◌, ℕ, Bool, true, false, List, Option, Some, None, Ok, slice_get}
-use Rattle.fleet_jobs.specs.Answers.{Answer}
+use Rattle.std.specs.Prelude.{◌≡◌, ◌⊎◌, ◌<◌, ℕ, Bool, true, false, List, Option, Some, None}
 use Rattle.mirror_share.specs.Names.{opened_in}
 use Rattle.mirror_share.specs.Seen.{HasSeenAll}
 use Rattle.mirror_share.specs.declared.opened.OpenedMirror.{OpenedMirror}
@@ -74,22 +73,10 @@ IsBroughtIn m r up first (Some o) master (Some s) = ComesOut m r up (store_in fi
 abbrev pub brings_at : Brings → ℕ → Bool
 brings_at brings slot = has_at slot brings.first brings.second brings.third brings.fourth
 
--- it was, by the stores that were given and those that came back
-abbrev pub IsBroughtUp : {D : Type 0} {g : _} → FleetStores D g → FleetStores D g → ℕ → Type 0
-IsBroughtUp {D} {g} old new slot = (before after : RepoStore D g) → store_at old slot ≡ Some before → store_at new slot ≡ Some after → BringsUp (repository_of old.master) (repository_of before) (repository_of new.master) (repository_of after)
+-- the same whatever cells the rows have, by the stores that were given and those that came back
+abbrev pub ComesOutNow : {D : Type 0} {g : _} → Bool → RepoStore D g → RepoStore D g → RepoStore D g → RepoStore D g → Type 0
+ComesOutNow true old_master old_mirror master mirror = BringsUp (repository_of old_master) (repository_of old_mirror) (repository_of master) (repository_of mirror)
+ComesOutNow false old_master old_mirror master mirror = (m : List ℕ) × ((r : List ℕ) × IsUnlike (named_by m) (named_by r) (head_of (revisions_of old_master)) (head_of (revisions_of old_mirror)) master mirror)
 
--- it wasn't, and why, whatever cells the rows have
-abbrev pub IsUnlikeNow : {D : Type 0} {g : _} → RepoStore D g → RepoStore D g → RepoStore D g → RepoStore D g → Type 0
-IsUnlikeNow old_master old_mirror master mirror = (m : List ℕ) × ((r : List ℕ) × IsUnlike (named_by m) (named_by r) (head_of (revisions_of old_master)) (head_of (revisions_of old_mirror)) master mirror)
-
-abbrev pub IsUnlikeIn : {D : Type 0} {g : _} → FleetStores D g → FleetStores D g → ℕ → Type 0
-IsUnlikeIn {D} {g} old new slot = (before after : RepoStore D g) → store_at old slot ≡ Some before → store_at new slot ≡ Some after → IsUnlikeNow old.master before new.master after
-
--- the one or the other
-abbrev pub IsJudged : {D : Type 0} {g : _} → Bool → FleetStores D g → FleetStores D g → ℕ → Type 0
-IsJudged true old new slot = IsBroughtUp old new slot
-IsJudged false old new slot = IsUnlikeIn old new slot
-
--- each mirror of which a newest revision is told was
-abbrev pub AreBroughtUp : {D : Type 0} {g : _} → FleetStores D g → FleetStores D g → List Answer → Type 0
-AreBroughtUp old new answers = (slot n : ℕ) → slice_get answers slot ≡ Some (Ok n) → IsBroughtUp old new slot
+abbrev pub IsJudged : {D : Type 0} {g : _} → FleetStores D g → FleetStores D g → ℕ → Bool → Type 0
+IsJudged {D} {g} old new slot up = (before after : RepoStore D g) → store_at old slot ≡ Some before → store_at new slot ≡ Some after → ComesOutNow up old.master before new.master after

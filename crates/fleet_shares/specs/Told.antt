@@ -49,19 +49,19 @@ tells brought slot [] answers = []
 tells brought slot (s ∷ ss) [] = tell_next s (brought slot) None ∷ tells brought (slot + 1) ss []
 tells brought slot (s ∷ ss) (a ∷ more) = tell_next s (brought slot) (Some a) ∷ tells brought (slot + 1) ss more
 
--- what may be told of a mirror by how it stands in the end: its refusal; or that revision once its order's job has run well, or why that
--- was refused; or that it failed (32), where its job has run well and it is unlike its master
-abbrev pub IsTold : {D : Type 0} → Ghosts D → Type 0 → Order → Result ℕ Refusal → Answer → Type 0
-IsTold g Unlike order (Err e) answer = answer ≡ Err (Other e)
-IsTold g Unlike order (Ok head) (Ok n) = HasEnded g order (Ok n) × (n ≡ head)
-IsTold g Unlike order (Ok head) (Err f) = HasEnded g order (Err f) ⊎ ((f ≡ Other Failed) × HasEnded g order (Ok head) × Unlike)
+-- what may be told of a mirror by how it stands in the end: its refusal; or that revision once its order's job has run well and has
+-- brought it up; or why that was refused; or that it failed (32), where its job has run well and hasn't brought it up
+abbrev pub IsTold : {D : Type 0} → Ghosts D → (Bool → Type 0) → Order → Result ℕ Refusal → Answer → Type 0
+IsTold g Judged order (Err e) answer = answer ≡ Err (Other e)
+IsTold g Judged order (Ok head) (Ok n) = HasEnded g order (Ok n) × (n ≡ head) × Judged true
+IsTold g Judged order (Ok head) (Err f) = HasEnded g order (Err f) ⊎ ((f ≡ Other Failed) × HasEnded g order (Ok head) × Judged false)
 
--- one answer for each, where the order of a mirror is that of its slot, from this one on, and by which slots' mirrors are unlike their master
-abbrev pub AreTold : {D : Type 0} → Ghosts D → (ℕ → Type 0) → ℕ → List (Result ℕ Refusal) → List Answer → Type 0
-AreTold g Unlike slot [] [] = Unit {0}
-AreTold g Unlike slot [] (a ∷ more) = ⊥
-AreTold g Unlike slot (s ∷ ss) [] = ⊥
-AreTold g Unlike slot (s ∷ ss) (a ∷ more) = IsTold g (Unlike slot) (sync_order slot) s a × AreTold g Unlike (slot + 1) ss more
+-- one answer for each, where the order of a mirror is that of its slot, from this one on, and by whether each slot's mirror was brought up
+abbrev pub AreTold : {D : Type 0} → Ghosts D → (ℕ → Bool → Type 0) → ℕ → List (Result ℕ Refusal) → List Answer → Type 0
+AreTold g Judged slot [] [] = Unit {0}
+AreTold g Judged slot [] (a ∷ more) = ⊥
+AreTold g Judged slot (s ∷ ss) [] = ⊥
+AreTold g Judged slot (s ∷ ss) (a ∷ more) = IsTold g (Judged slot) (sync_order slot) s a × AreTold g Judged (slot + 1) ss more
 
 -- the answer of an order, by whether its slot has a store
 abbrev pub IsAnswerOver : {D : Type 0} {g : _} → FleetStores D g → Order → Answer → Type 0

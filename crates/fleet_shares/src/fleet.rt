@@ -4,7 +4,7 @@ ghost use Rattle.std.specs.Arc.{arc_value};
 ghost use Rattle.std.specs.List.{AllZip};
 ghost use Rattle.mirror_share.specs.Names.{IsNamed};
 ghost use Rattle.store_share.specs.Opened.{cells_of};
-ghost use Rattle.fleet_shares.specs.Closing.{brings_at, AreBroughtUp, IsBroughtIn, IsJudged, IsUnlikeIn};
+ghost use Rattle.fleet_shares.specs.Closing.{brings_at, IsBroughtIn, IsJudged};
 ghost use Rattle.fleet_shares.specs.Opening.{HasStores};
 ghost use Rattle.fleet_shares.specs.Ran.{IsAnswerIn};
 ghost use Rattle.fleet_shares.specs.Told.{stands, AreTold, IsAnswerOver, SameSlots};
@@ -49,9 +49,8 @@ pub fn run_fleet<
     gate: G,
 ) -> (FleetStores<D>, Result<Vec<Answered>, AllocError>)
     ensures slots { SameSlots stores result.0 }
-    ensures answers { IfOk result.1 (λ answers. AreTold D.Disk (IsUnlikeIn stores result.0) 0
+    ensures answers { IfOk result.1 (λ answers. AreTold D.Disk (IsJudged stores result.0) 0
         (stands 0 refusals.items result.0) answers.items) }
-    ensures brought { IfOk result.1 (λ answers. AreBroughtUp stores result.0 answers.items) }
 {
     let count = refusals.len();
     let orders = match sync_orders(alloc, count) {
@@ -90,7 +89,7 @@ fn run_orders<
 ) -> (FleetStores<D>, Ran)
     ensures slots { SameSlots stores result.0 }
     ensures answers { IfOk result.1 (λ ran. AllZip (IsAnswerOver stores) orders.items ran.0.items) }
-    ensures brought { IfOk result.1 (λ ran. (slot : ℕ) → IsJudged (brings_at ran.1 slot) stores result.0 slot) }
+    ensures brought { IfOk result.1 (λ ran. (slot : ℕ) → IsJudged stores result.0 slot (brings_at ran.1 slot)) }
 {
     match opened_fleet(alloc, stores) {
         Ok(opened) => run_opened::<R, Brand, Brand, Brand, Brand, Brand, D, G>(
