@@ -121,8 +121,8 @@ module _ {D : Type 0} {G : Ghosts D} where
   judged_refused : (old new : FleetStores D G) (place next : ℕ) (came : List (Came G)) (e : Refusal) (lent : Option (D × D)) (slot : ℕ) (up : Bool) → next ≡ place + 1 → IsJudgedFrom old new next came slot up
       → IsJudgedFrom old new place (Refused e lent ∷ came) slot up
   judged_refused old new place next came e lent slot up counted (inl j) =
-      before_next slot place next (IsJudgedFrom old new place (Refused e lent ∷ came) slot up) counted j.0 (λ less. inl (less, j.1)) (λ at. inr (0, (omega (arith, at), tt)))
-  judged_refused old new place next came e lent slot up counted (inr j) = inr (suc j.0, (omega (arith, j.1.0, counted), j.1.1))
+      before_next slot place next (IsJudgedFrom old new place (Refused e lent ∷ came) slot up) counted j.0 (λ less. inl (less, j.1)) (λ at. inr (0, omega (arith, at), tt))
+  judged_refused old new place next came e lent slot up counted (inr j) = inr (suc j.0, omega (arith, j.1, counted), j.2)
 
   -- and where one more was opened
   module _ (up : Bool) (first master later_first later_master : RepoStore D G) (e : later_first ≡ first) (f : later_master ≡ master) where
@@ -142,17 +142,17 @@ module _ {D : Type 0} {G : Ghosts D} where
         λ before after was is. out_now up old.master new.master put.master left.master put_master left_master before after
             (j.1 before after (others slot (not_last slot place less) ∙ was) (sym (others_left slot (not_last slot place less)) ∙ is)),
       ))
-      (λ at. inr (0, (omega (arith, at), out_now up old.master new.master put.master left.master put_master left_master store now (j.1 store now (ap (store_at put) at ∙ there) (ap (store_at new) at ∙ there_now)))))
+      (λ at. inr (0, omega (arith, at), out_now up old.master new.master put.master left.master put_master left_master store now (j.1 store now (ap (store_at put) at ∙ there) (ap (store_at new) at ∙ there_now))))
   judged_opened old put new left place next came given store now slot up counted put_master left_master there there_now others others_left (inr j) =
-      inr (suc j.0, (omega (arith, j.1.0, counted), comes_as up old.master new.master put.master left.master put_master left_master (slice_get came j.0) j.1.1))
+      inr (suc j.0, omega (arith, j.1, counted), comes_as up old.master new.master put.master left.master put_master left_master (slice_get came j.0) j.2)
 
   -- where no folder was opened before
   judged_all : (old new : FleetStores D G) (first master : RepoStore D G) (refusals : List (Option Refusal)) (came : List (Came G)) (slot : ℕ) (up : Bool) → refusals ≡ [] → old.master ≡ first → master ≡ new.master
       → IsJudgedFrom old new (length refusals) came slot up → ComesAs first master (slice_get came slot) up
   judged_all old new first master refusals came slot up none e f (inl j) = absurd (let long = ap length none in omega (arith, j.0, long))
   judged_all old new first master refusals came slot up none e f (inr j) =
-      let at : j.0 ≡ slot = (let long = ap length none in omega (arith, j.1.0, long)) in
-      comes_as up first new.master old.master master e f (slice_get came slot) (subst (λ k. ComesAs old.master new.master (slice_get came k) up) at j.1.1)
+      let at : j.0 ≡ slot = (let long = ap length none in omega (arith, j.1, long)) in
+      comes_as up first new.master old.master master e f (slice_get came slot) (subst (λ k. ComesAs old.master new.master (slice_get came k) up) at j.2)
 
   stands_same : (k : ℕ) (rs : List (Option Refusal)) (s t : FleetStores D G) → ((n : ℕ) → n < k + length rs → store_at s n ≡ store_at t n) → stands k rs s ≡ stands k rs t
   stands_same k [] s t same = refl
@@ -167,9 +167,9 @@ module _ {D : Type 0} {G : Ghosts D} where
 -- what is told by whether slots' mirrors were brought up is so by what follows from that
 is_told_so : {D : Type 0} (G : Ghosts D) (P Q : Bool → Type 0) (order : Order) (s : Result ℕ Refusal) (a : Answer) → ((up : Bool) → P up → Q up) → IsTold G P order s a → IsTold G Q order s a
 is_told_so G P Q order (Err e) a f h = h
-is_told_so G P Q order (Ok head) (Ok n) f h = (h.0, (h.1, f true h.2))
+is_told_so G P Q order (Ok head) (Ok n) f h = (h.0, h.1, f true h.2)
 is_told_so G P Q order (Ok head) (Err e) f (inl h) = inl h
-is_told_so G P Q order (Ok head) (Err e) f (inr h) = inr (h.0, (h.1, f false h.2))
+is_told_so G P Q order (Ok head) (Err e) f (inr h) = inr (h.0, h.1, f false h.2)
 
 told_so : {D : Type 0} (G : Ghosts D) (P Q : ℕ → Bool → Type 0) (slot : ℕ) (ss : List (Result ℕ Refusal)) (as' : List Answer) → ((n : ℕ) → n < slot + length ss → (up : Bool) → P n up → Q n up) → AreTold G P slot ss as' → AreTold G Q slot ss as'
 told_so G P Q slot [] [] f h = tt

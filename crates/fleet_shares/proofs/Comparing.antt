@@ -1,6 +1,6 @@
--- What a mirror has besides is its master's, or a revision of it isn't.
-use Rattle.std.proofs.Common.{◌≡◌, ◌<◌, ◌≤◌, ◌+◌, ◌-◌, ◌++◌, ◌↔◌, ℕ, zero, suc, Bool, true, false, true≢false, IsTrue, List, [], ◌∷◌, length, Option, Some, None, refl, sym, ap, subst, ◌∙◌, arith}
-use Rattle.std.specs.Prelude.{nat_le, slice_get}
+-- A mirror of which what it has besides is its master's.
+use Rattle.std.proofs.Common.{◌≡◌, ◌<◌, ◌≤◌, ◌+◌, ◌++◌, ℕ, zero, suc, Bool, true, false, List, length, Option, Some, None, refl, sym, ap, ◌∙◌, arith}
+use Rattle.std.specs.Prelude.{nat_le}
 use Rattle.std.specs.Option.{option_map}
 use Rattle.std.proofs.lemmas.Bool.Decides.{nat_tests}
 use Rattle.node_base.specs.Tree.{PathMap}
@@ -13,14 +13,8 @@ use Rattle.store_share.specs.Row.{rev_at}
 use Rattle.store_share.specs.declared.rev.Rev.{Rev}
 use Rattle.store_share.proofs.Chained.{chain_of}
 use Rattle.store_share.proofs.Seen.{known_numbers}
-use Rattle.store_share.proofs.Showing.{rev_as, rev_parts}
-use Rattle.fleet_shares.specs.Agreed.{Adds, HaveSet, IsFront, IsOther, IsSameTo}
-
--- a revision's set
-has_set : (x : Repository) (n : ℕ) (s : List Change) → length x.sets ≡ length x.revisions → slice_get x.sets n ≡ Some s → n < length x.revisions → option_map (λ (v : Rev). v.set) (rev_at x n) ≡ Some s
-has_set x n s long is within =
-    let p = rev_parts x n long within in
-    ap (option_map (λ (v : Rev). v.set)) p.4 ∙ (sym p.2 ∙ is)
+use Rattle.store_share.proofs.Showing.{rev_as}
+use Rattle.fleet_shares.specs.Agreed.{Adds, HaveSet, IsSameTo}
 
 some_of : {A : Type 0} (a b : A) → Some a ≡ Some b → a ≡ b
 some_of {A} a b e = ap (of a) e
@@ -28,28 +22,6 @@ some_of {A} a b e = ap (of a) e
     of : A → Option A → A
     of d (Some z) = z
     of d None = d
-
-below : {A : Type 0} (xs : List A) (n : ℕ) (x : A) → slice_get xs n ≡ Some x → n < length xs
-below [] n x e = absurd (cc)
-below (y ∷ xs) zero x e = omega arith
-below (y ∷ xs) (suc n) x e = let h = below xs n x e in omega (arith, h)
-
-above_none : {A : Type 0} (xs : List A) (n : ℕ) → slice_get xs n ≡ None → n < length xs → ⊥
-above_none [] n e h = omega (arith, h)
-above_none (y ∷ xs) zero e h = absurd (cc)
-above_none (y ∷ xs) (suc n) e h = above_none xs n e (omega (arith, h))
-
--- whether both have a revision with the same set, by the sets that they have
-pub have_same : (x y : Repository) (n : ℕ) (s t : List Change) (b : Bool) → length x.sets ≡ length x.revisions → length y.sets ≡ length y.revisions → n < length x.revisions → slice_get x.sets n ≡ Some s → slice_get y.sets n ≡ Some t
-    → (IsTrue b ↔ (s ≡ t)) → IsTrue b ↔ HaveSet x y n
-have_same x y n s t b long longer within is are same =
-    let there = below y.sets n t are in
-    let ours = has_set x n s long is within in
-    let theirs = has_set y n t longer are (omega (arith, there, longer)) in
-    ((λ u. record { within = omega (arith, there, longer); same = ours ∙ (ap Some (same.0 u) ∙ sym theirs) }), (λ h. same.1 (some_of s t (sym ours ∙ (h.same ∙ theirs)))))
-
-pub have_none : (x y : Repository) (n : ℕ) → length y.sets ≡ length y.revisions → 0 < length y.revisions → slice_get y.sets n ≡ None → IsTrue false ↔ HaveSet x y n
-have_none x y n longer begun none = ((λ e. absurd (true≢false (sym e))), (λ h. absurd (above_none y.sets n none (let le = h.within in omega (arith, longer, le, begun)))))
 
 -- chains of which each has the number of its place, and the same sets, are the same
 abbrev number_of : Option Rev → Option ℕ
@@ -111,14 +83,3 @@ adds_all law x y above is are long longer more = record { more = more; whole = �
         (sets same)
         (chain_of law x (rev_at x) (head_of x.revisions) is long (omega (arith, begun)) (λ i less. refl))
         (λ r le. chain_of law y (rev_at y) (head_of y.revisions) are longer (omega (arith, begun_too)) (λ i less. refl) r (omega (arith, le, far)))
-
--- one more is
-pub more_is : (x y : Repository) (above i j : ℕ) → j ≡ i → ((n : ℕ) → above < n → n < i → HaveSet x y n) → HaveSet x y j → (n : ℕ) → above < n → n < i + 1 → HaveSet x y n
-more_is x y above i j same so_far one n from less = by (nat_le i n) refl
-  where
-    by : (b : Bool) → nat_le i n ≡ b → HaveSet x y n
-    by true e = subst (HaveSet x y) (same ∙ same_n (grind (arith, nat_tests))) one
-      where
-        same_n : i ≤ n → i ≡ n
-        same_n at = omega (arith, at, less)
-    by false e = so_far n from (grind (arith, nat_tests))

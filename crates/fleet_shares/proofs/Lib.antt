@@ -11,4 +11,4 @@ pub mod Slots
 pub mod Telling
 pub mod Meeting
 pub mod Comparing
-pub mod Same
+pub mod Alike

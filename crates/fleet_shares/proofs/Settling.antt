@@ -42,7 +42,7 @@ stays_on old new y head shown is at within known kept x all = record {
 
 -- or it isn't known to have it
 pub stuck_now : {L D : Type 0} {r : _} {g : _} (book : MasterBook L D r g) (head : ℕ) → is_stuck book ≡ true → IsLost r head (store_of book)
-stuck_now book head is = inl (book, (refl, is))
+stuck_now book head is = inl (book, refl, is)
 
 -- whether a store has what it had and what it has besides is told
 pub brought_by : {L D : Type 0} {r : _} {g : _} (seat : ReaderSeat L r) (above : ℕ) (old now : RepoStore D g) (x y m : Repository) (stayed added : Bool) → above ≡ seen_by seat → x ≡ repository_of now → now ≡ old → y ≡ m → stayed ≡ true → HasStayed stayed seat old
@@ -55,7 +55,7 @@ brought_by {L} {D} {r} {g} seat above old now x y m stayed added at is same whos
     by false other = inr (subst (λ i. IsOther i (repository_of old) m) at other)
 
 pub not_brought_by : {L D : Type 0} {r : _} {g : _} (seat : ReaderSeat L r) (old : RepoStore D g) (m : Repository) (stayed : Bool) → stayed ≡ false → HasStayed stayed seat old → IsBroughtBy false seat old m
-not_brought_by seat old m stayed no h = inl (subst (λ b. HasStayed b seat old) no h)
+not_brought_by seat old m stayed lost h = inl (subst (λ b. HasStayed b seat old) lost h)
 
 pub settled_by : {L D : Type 0} {r : _} {g : _} (up : Bool) (opened : Option (ReaderSeat L r)) (seat : ReaderSeat L r) (store now old : RepoStore D g) (m : Repository) → opened ≡ Some seat → store ≡ now → now ≡ old → IsBroughtBy up seat old m
     → IsSettled up (Some store) opened m

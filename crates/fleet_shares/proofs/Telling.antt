@@ -31,8 +31,8 @@ told_of : {D : Type 0} {g : _} (Judged : Bool → Type 0) (order : Order) (store
     → IsTold g Judged order (stand None (option_map (λ s. head_of (revisions_of s)) store)) (tell (stand None (option_map (λ s. head_of (revisions_of s)) store)) up a)
 told_of Judged order None has up a e j h = refl
 told_of Judged order (Some s) false up a e j h = absurd (true≢false e)
-told_of Judged order (Some s) true true (Ok n) e j ended = (ended, (refl, j))
-told_of Judged order (Some s) true false (Ok n) e j ended = inr (refl, (ended, j))
+told_of Judged order (Some s) true true (Ok n) e j ended = (ended, refl, j)
+told_of Judged order (Some s) true false (Ok n) e j ended = inr (refl, ended, j)
 told_of Judged order (Some s) true up (Err f) e j ended = inl ended
 
 module _ {D : Type 0} {g : _} (old new : FleetStores D g) (same : SameSlots old new) (up : ℕ → Bool) (judged : (slot : ℕ) → IsJudged old new slot (up slot)) where

@@ -1,5 +1,5 @@
 //! Whether what a mirror has besides is its master's.
-ghost use Rattle.std.specs.Prelude.{◌≡◌, ◌↔◌, ◌<◌, IsTrue, length};
+ghost use Rattle.std.specs.Prelude.{◌↔◌, ◌<◌, IsTrue, length};
 ghost use Rattle.fleet_shares.specs.Agreed.{HaveSet, IsAddedTo};
 
 use crate::same::is_same_set;

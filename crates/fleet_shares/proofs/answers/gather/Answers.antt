@@ -20,6 +20,9 @@ loop-due-preserved g c =
       omega (arith, pushed, room, steps.1, was.1),
     )
 
-pub returns-after-loop-due : goal.returns-after-loop-due
-returns-after-loop-due g c =
-    paid_all (g.J.Runner.may_answer c.args.own.now) _ _ _ _ _ c.loop-due.invariant.0 (nil_from_length _ c.loop-due.invariant.1)
+pub returns : goal.returns
+returns g c =
+    let may = g.J.Runner.may_answer c.args.own.now in
+    let gone = nil_from_length c.loop-due.due-iterator.rest.items (sym c.loop-due.due-iterator.rest.ok.0 ∙ c.in-None.ensures.steps.0) in
+    subst (λ ds. AreAnswers may ds c.args.outcomes.items c.loop-due.answers.items) c.into_iter-due-iterator.ensures.into_iter_gives.0
+    (subst (λ xs. AreAnswers may (into_iter_items c.into_iter-due-iterator.result) xs c.loop-due.answers.items) c.into_iter-rest.ensures.rest (paid_all may _ _ _ _ _ c.loop-due.invariant.0 gone))

@@ -1,4 +1,4 @@
-use Rattle.fleet_shares.proofs.Same.{same_paths}
+use Rattle.fleet_shares.proofs.Alike.{same_paths}
 use Rattle.fleet_shares.proofs.same.is_same_path.Goals as goal
 
 pub returns : goal.returns
