@@ -1,5 +1,5 @@
 -- Orders that were given, and what comes of them.
-use Rattle.std.proofs.Common.{◌≡◌, inl, inr, ℕ, List, [], ◌∷◌, ◌++◌, map, length, take, true, false, Bool, Option, Some, Result, Ok, Err, IfOk, IfErr, Vec, vec_len, refl, sym, ap, subst, ◌∙◌, append_assoc, append-nil}
+use Rattle.std.proofs.Common.{◌≡◌, inl, inr, ℕ, List, [], ◌∷◌, ◌++◌, map, length, take, Result, Ok, Err, IfOk, IfErr, Vec, vec_len, refl, sym, ap, subst, ◌∙◌, append_assoc, append-nil}
 use Rattle.std.specs.List.{AllZip}
 use Rattle.std.specs.declared.alloc.Global.{Global}
 use Rattle.std.proofs.lemmas.List.{map-append}
@@ -8,7 +8,7 @@ use Rattle.fleet_jobs.specs.declared.fault.Unfinished.{Unfinished}
 use Rattle.fleet_jobs.specs.declared.order.Order.{Order}
 use Rattle.fleet_jobs.specs.declared.order.Outcome.{Outcome}
 use Rattle.fleet_jobs.specs.declared.order.Ticket.{Ticket}
-use Rattle.fleet_shares.specs.Given.{accepted_if, behind, outcomes_in, settled, waiting_in, AreAnswers, IsAnswered, IsDue, IsPaid}
+use Rattle.fleet_shares.specs.Given.{behind, outcomes_in, settled, waiting_in, AreAnswers, IsAnswered, IsDue, IsPaid}
 use Rattle.fleet_shares.specs.declared.answers.Due.{Due}
 use Rattle.fleet_shares.specs.declared.answers.Due.TheVariants.{Waits, Ended}
 
@@ -69,9 +69,10 @@ answered may own (o ∷ os) (Ended x ∷ ds) ts xs (a ∷ as') h e w p = (inr (s
 answered may own (o ∷ os) (Waits q ∷ ds) [] xs (a ∷ as') h e w p = absurd (more_than_none q (waiting_in ds) e)
 answered may own (o ∷ os) (Waits q ∷ ds) (t ∷ ts) [] (a ∷ as') h e w p =
     (inr (subst (λ k. own k a) h.0 p.0), answered may own os ds ts [] as' h.1 (tails t.order q (map order_of ts) (waiting_in ds) e) (none_of may ts) p.1)
-answered may own (o ∷ os) (Waits q ∷ ds) (t ∷ ts) (x ∷ xs) (a ∷ as') h e w p =
-    (inl (subst (λ k. may k a) (heads t.order q (map order_of ts) (waiting_in ds) e ∙ h.0) (subst (may t.order) (sym p.0) w.0.1)),
-    answered may own os ds ts xs as' h.1 (tails t.order q (map order_of ts) (waiting_in ds) e) w.1 p.1)
+answered may own (o ∷ os) (Waits q ∷ ds) (t ∷ ts) (x ∷ xs) (a ∷ as') h e w p = (
+  inl (subst (λ k. may k a) (heads t.order q (map order_of ts) (waiting_in ds) e ∙ h.0) (subst (may t.order) (sym p.0) w.0.1)),
+  answered may own os ds ts xs as' h.1 (tails t.order q (map order_of ts) (waiting_in ds) e) w.1 p.1,
+)
 
 -- so many outcomes as there are tickets
 whole : (may : Order → Answer → Type 0) (ts : List Ticket) (xs : List Outcome) → AreOutcomesOf may ts xs → AreOutcomesOf may (take (length xs) ts) xs

@@ -1,5 +1,5 @@
 -- What comes of shared stores: they have what they had, and a mirror what it has besides of its master's.
-use Rattle.std.proofs.Common.{◌≡◌, ◌⊎◌, inl, inr, ℕ, ◌≤◌, ◌<◌, ◌+◌, length, if◌then◌else◌, zero, suc, Bool, true, false, true≢false, List, Option, Some, None, Result, Ok, Err, IfOk, refl, sym, ap, subst, ◌∙◌, arith}
+use Rattle.std.proofs.Common.{◌≡◌, inl, inr, ℕ, ◌≤◌, ◌<◌, ◌+◌, length, if◌then◌else◌, zero, suc, Bool, true, false, true≢false, List, Option, Some, None, Result, Ok, Err, IfOk, refl, sym, ap, subst, ◌∙◌, arith}
 use Rattle.mirror_share.specs.Names.{opened_in}
 use Rattle.mirror_share.specs.Seen.{HasSeenAll}
 use Rattle.mirror_share.specs.declared.opened.OpenedMirror.{OpenedMirror}

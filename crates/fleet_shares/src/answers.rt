@@ -88,12 +88,7 @@ fn give_one<R: Wait, J: Runner>(
 }
 
 // Gives an order that stays here too, and says whether it is accepted.
-fn is_given<R: Wait, J: Runner>(
-    rt: &R,
-    alloc: Global,
-    fleet: &mut Fleet<J>,
-    order: &Order,
-) -> bool
+fn is_given<R: Wait, J: Runner>(rt: &R, alloc: Global, fleet: &mut Fleet<J>, order: &Order) -> bool
     ensures accepted { map (λ t. t.order) fleet.new.accepted
         ≡ map (λ t. t.order) fleet.old.accepted ++ accepted_if result order.now }
     ensures same { fleet.new.runner ≡ fleet.old.runner }

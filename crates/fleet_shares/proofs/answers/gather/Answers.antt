@@ -1,4 +1,4 @@
-use Rattle.std.proofs.Common.{◌++◌, ap, arith, subst, sym, ◌∙◌}
+use Rattle.std.proofs.Common.{◌++◌, arith, subst, sym, ◌∙◌}
 use Rattle.std.proofs.lemmas.List.{nil_from_length}
 use Rattle.std.specs.Vec.Iter.{into_iter_items}
 use Rattle.fleet_shares.specs.Given.{AreAnswers}
