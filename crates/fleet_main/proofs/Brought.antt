@@ -94,6 +94,17 @@ from_none n = omega arith
 to_none : (k n : ℕ) → k < 0 + n → k < n
 to_none k n less = omega (arith, less)
 
+-- a slot before the next is before this one, or this one
+before_next : (slot place next : ℕ) (P : Type 0) → next ≡ place + 1 → slot < next → (slot < place → P) → (slot ≡ place → P) → P
+before_next slot place next P counted less first last = by (nat_le place slot) refl
+  where
+    by : (b : Bool) → nat_le place slot ≡ b → P
+    by true e = last (not_before (grind (arith, nat_tests)))
+      where
+        not_before : place ≤ slot → slot ≡ place
+        not_before at = omega (arith, at, counted, less)
+    by false e = first (grind (arith, nat_tests))
+
 -- of stores in their slots
 module _ {D : Type 0} {G : Ghosts D} where
   stands_snoc : (k : ℕ) (rs : List (Option Refusal)) (r : Option Refusal) (stores : FleetStores D G) → stands k (rs ++ r ∷ []) stores ≡ stands k rs stores ++ stand r (head_at stores (k + length rs)) ∷ []
@@ -105,17 +116,6 @@ module _ {D : Type 0} {G : Ghosts D} where
   stands_long : (k : ℕ) (rs : List (Option Refusal)) (stores : FleetStores D G) → length (stands k rs stores) ≡ length rs
   stands_long k [] stores = refl
   stands_long k (r ∷ rs) stores = ap suc (stands_long (k + 1) rs stores)
-
-  -- a slot before the next is before this one, or this one
-  before_next : (slot place next : ℕ) (P : Type 0) → next ≡ place + 1 → slot < next → (slot < place → P) → (slot ≡ place → P) → P
-  before_next slot place next P counted less first last = by (nat_le place slot) refl
-    where
-      by : (b : Bool) → nat_le place slot ≡ b → P
-      by true e = last (not_before (grind (arith, nat_tests)))
-        where
-          not_before : place ≤ slot → slot ≡ place
-          not_before at = omega (arith, at, counted, less)
-      by false e = first (grind (arith, nat_tests))
 
   -- which slots' mirrors were brought up, where one more folder was refused
   judged_refused : (old new : FleetStores D G) (place next : ℕ) (came : List (Came G)) (e : Refusal) (lent : Option (D × D)) (slot : ℕ) (up : Bool) → next ≡ place + 1 → IsJudgedFrom old new next came slot up
