@@ -1,5 +1,5 @@
 -- What `fleet` does over folders, step by step.
-use Rattle.std.proofs.Common.{◌≡◌, ◌≢◌, ◌≤◌, ◌<◌, ◌⊎◌, inl, inr, ℕ, suc, ◌+◌, Bool, true, false, ◌||◌, List, [], ◌∷◌, ◌++◌, length, map, Option, Some, None, Result, Ok, Err, IfOk, IfErr, IfSome, Vec, is_some, is_ok, if◌then◌else◌, refl, sym, ap, subst, ◌∙◌, append_assoc, append-nil, length-append, arith}
+use Rattle.std.proofs.Common.{◌≡◌, ◌≢◌, ◌≤◌, ◌<◌, inl, inr, ℕ, suc, ◌+◌, Bool, true, false, ◌||◌, List, [], ◌∷◌, ◌++◌, length, map, Option, Some, None, Result, Ok, Err, IfOk, IfErr, IfSome, Vec, is_some, is_ok, if◌then◌else◌, refl, sym, ap, subst, ◌∙◌, append_assoc, append-nil, length-append, arith}
 use Rattle.std.specs.List.{list_all, list_any, AllZip}
 use Rattle.std.specs.Option.{option_map}
 use Rattle.std.specs.Str.{bytes_eq}
@@ -15,7 +15,7 @@ use Rattle.fleet_jobs.specs.declared.order.Order.{Order}
 use Rattle.node_base.specs.declared.refusal.Refusal.{Refusal}
 use Rattle.node_base.specs.declared.refusal.Refusal.TheVariants as refusal
 use Rattle.repo_core.specs.Repository.{head_of}
-use Rattle.repo_store.specs.Words.{disk_of, repository_of, revisions_of, IsKept as StoreIsKept}
+use Rattle.repo_store.specs.Words.{disk_of, revisions_of, IsKept as StoreIsKept}
 use Rattle.repo_store.specs.declared.store.RepoStore.{RepoStore}
 use Rattle.std.specs.Prelude.{slice_get, nat_le}
 use Rattle.fleet_shares.specs.Closing.{ComesOutNow, IsJudged}

@@ -1,5 +1,5 @@
 -- What `fleet` does over the repositories that stand in folders, and why it doesn't.
-use Rattle.std.specs.Prelude.{◌≡◌, ◌≤◌, ◌<◌, ◌⊎◌, ◌++◌, ◌+◌, ℕ, Bool, true, List, [], ◌∷◌, length, map, slice_get, Option, Some, None, Result, Ok, Err, IfOk, Vec, is_some, is_ok, string_bytes}
+use Rattle.std.specs.Prelude.{◌≡◌, ◌≤◌, ◌<◌, ◌⊎◌, ◌++◌, ◌+◌, ℕ, Bool, List, [], ◌∷◌, length, map, slice_get, Option, Some, None, Result, Ok, Err, IfOk, Vec, is_some, is_ok, string_bytes}
 use Rattle.std.specs.Io.KnownBytes.{Appends}
 use Rattle.std.specs.List.{list_all, AllZip}
 use Rattle.std.specs.declared.alloc.Global.{Global}
@@ -9,7 +9,7 @@ use Rattle.fleet_jobs.specs.Answers.{Answer}
 use Rattle.node_base.specs.declared.refusal.Refusal.{Refusal}
 use Rattle.node_base.specs.declared.refusal.Refusal.TheVariants as refusal
 use Rattle.repo_core.specs.Repository.{head_of}
-use Rattle.repo_store.specs.Words.{disk_of, repository_of, revisions_of, IsKept as StoreIsKept}
+use Rattle.repo_store.specs.Words.{disk_of, revisions_of, IsKept as StoreIsKept}
 use Rattle.repo_store.specs.declared.store.RepoStore.{RepoStore}
 use Rattle.fleet_shares.specs.Closing.{ComesOutNow, IsJudged}
 use Rattle.fleet_shares.specs.Lines.{lines_of}

@@ -1,4 +1,4 @@
-use Rattle.std.proofs.Common.{◌≡◌, ◌∷◌, ◌∙◌, [], None, length, map, string_bytes, ap, sym, subst, rules}
+use Rattle.std.proofs.Common.{◌≡◌, ◌∷◌, ◌∙◌, None, length, map, string_bytes, ap, sym, subst, rules}
 use Rattle.std.proofs.lemmas.List.{nil_from_length}
 use Rattle.command_words.specs.Twice.{first_twice}
 use Rattle.fleet_main.proofs.Brought.{brought_at, brought_none, brought_opened_at, brought_refused}
