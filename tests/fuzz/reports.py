@@ -8,14 +8,14 @@ What svnserve tells is another edit with the same effect: it sends texts as delt
 changed and changed back. effects.py tells what an edit does.
 """
 import collections
+import copy
 
 from dumps import Refused
-from reads import NO_URL, OTHER, Asked, Denied, Reads, place_of
-from sessions import AUTHORISED, DONE, Edit, Word, command, is_a, spelled, wanted
+from reads import ANSWERED, NO_URL, OTHER, Asked, Denied, Reads, place_of
+from sessions import AUTHORISED, DONE, Edit, Word, command, is_a, items, spelled, wanted
 
 # The most commands of a report.
 MOST = 65536
-ORDERS = {'update', 'switch', 'status', 'diff'}
 Change = collections.namedtuple('Change', 'path action kind source props text')
 # A folder with nothing in it.
 ROOT = {(): {'kind': b'dir', 'props': {}, 'text': None, 'changed': 0}}
@@ -26,10 +26,6 @@ ROOT = {(): {'kind': b'dir', 'props': {}, 'text': None, 'changed': 0}}
 def below(tree, place):
     """What stands at a place and below it, as it is from there."""
     return {it[len(place):]: node for it, node in tree.items() if it[:len(place)] == place}
-
-
-def content(node):
-    return node['kind'], node['props'], node['text']
 
 
 def emptied(tree):
@@ -74,17 +70,19 @@ class Update(Edit):
 
     LAST = b'close-edit'
 
-    def __init__(self, server, reported, wanted, number, base, tells_root=True):
-        self.server, self.wanted = server, wanted if tells_root else {it: node for it, node in wanted.items() if it}
-        super().__init__([reported], changes_between(reported, wanted), number=number, base=base)
+    def __init__(self, report, reported, goal, number):
+        self.server, self.goal, self.has_texts = report.server, goal, report.has_texts
+        # (a target stands alone in its folder, of which nothing is told)
+        self.tells_root = not report.target
+        super().__init__([reported], changes_between(reported, goal), number=number, base=report.base)
 
     def props_at(self, path, _done):
         return self.trees[0][path]['props']
 
     def beside(self, path, token, name):
-        if path not in self.wanted:
+        if path not in self.goal or not path and not self.tells_root:
             return []
-        return [command(name, token, b'svn:entry:' + it, value) for it, value in self.server.entry_of(self.wanted[path])]
+        return [command(name, token, b'svn:entry:' + it, value) for it, value in self.server.entry_of(self.goal[path])]
 
 
 # ---- reports
@@ -92,9 +90,10 @@ class Update(Edit):
 class Report:
     """What a command wants, and what its client has said so far that it has."""
 
-    def __init__(self, server, number, target, wanted, is_switch=False):
+    def __init__(self, server, number, target, wanted, has_url=False, has_texts=True):
         # (the root of what is wanted stands at this path of that revision)
-        self.server, self.number, self.target, self.wanted, self.is_switch = server, number, target, wanted, is_switch
+        self.server, self.number, self.target, self.wanted = server, number, target, wanted
+        self.has_url, self.has_texts = has_url, has_texts
         self.said, self.spoilt = [], None
         # where a reported folder stands that is switched, by its path
         self.links = {}
@@ -156,6 +155,7 @@ class Report:
         except Denied as denied:
             return self.server.denial(denied)
         self.server.awaits = Judged(self.server)
+        self.server.edits.append(edit)
         return AUTHORISED + b''.join(edit.said)
 
     # ---- what is wanted, and what is reported
@@ -167,20 +167,14 @@ class Report:
             self.take(*it)
         if self.tree is None:
             raise Denied(165004)
-        wanted = self.followed(wanted, number)
-        reported = self.tree
-        self.server.edits.append((self, number, wanted))
-        if self.target:
-            # (a target stands alone in its folder, of which nothing is told)
-            reported, wanted = (placed(ROOT, self.target, it) for it in (reported, wanted))
-        return Update(self.server, reported, wanted, number, self.base, not self.target)
+        both = self.tree, self.followed(wanted, number)
+        return Update(self, *(placed(ROOT, self.target, it) for it in both), number)
 
     def followed(self, wanted, number):
         """What is wanted where a folder stays switched: what stands there at its own place."""
-        if self.is_switch:
-            return wanted
         for path, place in self.links.items():
-            wanted = placed(wanted, path, below(self.server.trees[number], place))
+            if not self.has_url and not is_blocked(wanted, path):
+                wanted = placed(wanted, path, below(self.server.trees[number], place))
         return wanted
 
     def take(self, name, params):
@@ -188,8 +182,7 @@ class Report:
             return self.begin(name, params)
         path = params[0]
         if name == 'delete-path':
-            if not path:
-                raise Denied(165004)
+            self.has_place(path)
             self.tree = placed(self.tree, path, {})
             return None
         _, url, number, is_empty, depth = params
@@ -214,7 +207,8 @@ class Report:
         if not fits(place):
             raise Denied(160013)
         tree = self.server.trees[self.server.number(number)]
-        if not path or is_blocked(self.tree, path):
+        self.has_place(path)
+        if is_blocked(self.tree, path):
             raise Denied(165004)
         if place not in tree:
             raise Denied(160013)
@@ -224,6 +218,11 @@ class Report:
         if url is not None:
             self.links[path] = place
         return emptied(found) if is_empty else found
+
+    def has_place(self, path):
+        """A path is below the folder, but for a target: nothing may be there, or something else."""
+        if not path and not self.target:
+            raise Denied(165004)
 
     def place_of(self, path):
         """Where a path lies: below the session's place, or below that of a switched folder."""
@@ -279,11 +278,23 @@ class Reporting(Reads):
 
     def __init__(self, *words):
         super().__init__(*words)
-        # what is awaited in the place of a command, and of each edit what was told: its report, revision and tree
+        # what is awaited in the place of a command, and the edits that were told
         self.awaits, self.edits = None, []
+
+    def answers(self):
+        self.awaits, self.edits = None, []
+        return super().answers()
 
     def answer(self, item):
         return self.awaits.answer(item) if self.awaits else super().answer(item)
+
+    def edit_behind(self, said, root, place):
+        """The edit that a session of this root that stands at this place sends behind these items, if it does."""
+        other = copy.copy(self)
+        other.denied, other.awaits, other.edits, other.root, other.place = collections.Counter(), None, [], root, place
+        for it in items(b''.join([spelled(it) for it in said])):
+            other.answer(it)
+        return other.edits[-1] if isinstance(other.awaits, Judged) else None
 
     def part(self, path, number, is_dir):
         """What stands at a path of a revision and below it; a folder, where one is wanted."""
@@ -309,12 +320,11 @@ class Reporting(Reads):
             raise Denied(*OTHER)
         return place
 
-    def ordered(self, number, target, depth, url=None):
-        """A command that a report follows; what isn't offered is denied before that."""
-        if depth not in (b'infinity', b'unknown') or target and not self.TAKES_TARGETS:
+    def ordered(self, target, depth, url=None):
+        """Where what is wanted stands; what isn't offered is denied before its report."""
+        if 'update' not in ANSWERED or depth not in (b'infinity', b'unknown') or target and not self.TAKES_TARGETS:
             raise Denied(200007)
-        place = self.place + target if url is None else self.linked(url)
-        return place
+        return self.place + target if url is None else self.linked(url)
 
     def report(self, *words):
         def answered():
@@ -322,29 +332,29 @@ class Reporting(Reads):
             return b''
         return answered
 
+    def flags(self, params):
+        return [params.perhaps(params.bool, False) for _ in range(2)]
+
     def at_update(self, params):
-        number, target, depth = params.maybe(int), params.path(), self.depth(params, b'files')
+        number, target, recurse = params.maybe(int), params.path(), params.bool()
+        depth = params.perhaps(params.depth, b'infinity' if recurse else b'files')
         self.flags(params)
-        return self.report(number, target, self.ordered(number, target, depth))
+        return self.report(number, target, self.ordered(target, depth))
 
     def at_switch(self, params):
         number, target, recurse, url = params.maybe(int), params.path(), params.bool(), params.next(bytes)
         depth = params.perhaps(params.depth, b'infinity' if recurse else b'files')
         self.flags(params)
-        return self.report(number, target, self.ordered(number, target, depth, url), True)
+        return self.report(number, target, self.ordered(target, depth, url), True)
 
     def at_status(self, params):
         target, recurse = params.path(), params.bool()
         number = params.perhaps(lambda: params.maybe(int), None)
         depth = params.perhaps(params.depth, b'infinity' if recurse else b'empty')
-        return self.report(number, target, self.ordered(number, target, depth))
+        return self.report(number, target, self.ordered(target, depth), False, False)
 
     def at_diff(self, params):
         number, target, recurse, _, url = params.maybe(int), params.path(), params.bool(), params.bool(), params.next(bytes)
-        params.perhaps(params.bool, True)
+        has_texts = params.perhaps(params.bool, True)
         depth = params.perhaps(params.depth, b'infinity' if recurse else b'files')
-        return self.report(number, target, self.ordered(number, target, depth, url))
-
-    def depth(self, params, shallow):
-        recurse = params.bool()
-        return params.perhaps(params.depth, b'infinity' if recurse else shallow)
+        return self.report(number, target, self.ordered(target, depth, url), True, has_texts)
