@@ -139,6 +139,10 @@ class Reader(Asker):
         """The revisions in which a folder is where the session stands."""
         return [number for number, tree in enumerate(self.server.trees) if tree.get(self.place, {}).get('kind') == b'dir']
 
+    def near(self):
+        """The names of what stands right below the session's place in some revision."""
+        return [it[0] for it in self.there(self.random.randrange(len(self.server.trees))) if it] or [b'a']
+
     def any_of(self, numbers):
         """One of these, mostly."""
         return self.random.choice(numbers) if numbers and self.random.random() < 0.95 else self.number()
@@ -147,7 +151,7 @@ class Reader(Asker):
         """A command that a report follows, mostly one that is answered."""
         random, name = self.random, self.random.choice(ORDERS)
         number, recurse = self.maybe(self.any_of(self.folders())), random.random() < 0.9
-        target = self.path() if random.random() < 0.04 else b''
+        target = self.path() if random.random() < 0.04 else random.choice(self.near()) if random.random() < 0.3 else b''
         depth = self.depth() if random.random() < 0.05 else random.choice(WHOLE)
         count = 3 if random.random() < 0.1 else 0
         if name == b'update':
@@ -313,7 +317,7 @@ class WellBehaved(Reader):
         number, target = random.choice(folders), b''
         if random.random() < 0.3:
             number = random.randrange(head + 1)
-            target = random.choice([it[0] for it in self.there(random.choice(folders)) if it] or [b'a'])
+            target = random.choice(self.near())
         at = [] if number == head and self.flag() else [number]
         depth, goal = random.choice(WHOLE), random.choice(self.goals(number, not target))
         url = self.spelled_url(goal)

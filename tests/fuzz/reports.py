@@ -186,7 +186,7 @@ class Report:
             self.tree = placed(self.tree, path, {})
             return None
         _, url, number, is_empty, depth = params
-        if depth != b'infinity':
+        if depth != b'infinity' or url is not None and not self.server.TAKES_LINKS:
             raise Denied(200007)
         self.tree = placed(self.tree, path, self.source(path, url, number, is_empty))
         return None
@@ -273,8 +273,8 @@ class Judged:
 class Reporting(Reads):
     """A repository as readers see it who have working copies of it."""
 
-    # Whether the target of a command may be a path below the session's place.
-    TAKES_TARGETS = False
+    # Whether a folder may be reported as it stands at another URL.
+    TAKES_LINKS = False
 
     def __init__(self, *words):
         super().__init__(*words)
@@ -322,7 +322,7 @@ class Reporting(Reads):
 
     def ordered(self, target, depth, url=None):
         """Where what is wanted stands; what isn't offered is denied before its report."""
-        if 'update' not in ANSWERED or depth not in (b'infinity', b'unknown') or target and not self.TAKES_TARGETS:
+        if 'update' not in ANSWERED or depth not in (b'infinity', b'unknown') or len(target) > 1:
             raise Denied(200007)
         return self.place + target if url is None else self.linked(url)
 
