@@ -8,6 +8,8 @@ import shutil
 import subprocess
 import xml.etree.ElementTree as xml
 
+# (no file is changed here in the same moment by anything but `svn`, which needn't wait for another one then)
+NO_WAIT = 'SVN_I_LOVE_CORRUPTED_WORKING_COPIES_SO_DISABLE_SLEEP_FOR_TIMESTAMPS'
 # What `svn info` tells of a copy that is not of the repository.
 OWN = ['wcroot-abspath', 'text-updated']
 
@@ -28,7 +30,7 @@ class Copies:
     """The copies, of a room each, and whether all was the same so far."""
 
     def __init__(self, urls, work, env, limit):
-        self.urls, self.env, self.limit, self.fine = urls, env, limit, True
+        self.urls, self.env, self.limit, self.fine = urls, {**env, NO_WAIT: 'yes'}, limit, True
         self.rooms = [os.path.join(work, it) for it in ('due', 'got')]
         for it in self.rooms:
             os.makedirs(it)
@@ -38,11 +40,22 @@ class Copies:
             shutil.rmtree(it)
             os.makedirs(it)
 
-    def run(self, at, words):
+    def begin(self, at, words):
+        return subprocess.Popen(['svn', *(it.replace('ROOT', self.urls[at]) for it in words), '--non-interactive'], cwd=self.rooms[at],
+                                stdin=subprocess.DEVNULL, stdout=subprocess.PIPE, stderr=subprocess.PIPE, env=self.env)
+
+    def end(self, at, child):
         """The status of `svn` in a room, what it prints and the numbers of its errors, with ROOT for the URL."""
-        done = subprocess.run(['svn', *(it.replace('ROOT', self.urls[at]) for it in words), '--non-interactive'], cwd=self.rooms[at],
-                              stdin=subprocess.DEVNULL, stdout=subprocess.PIPE, stderr=subprocess.PIPE, env=self.env, timeout=self.limit)
-        return done.returncode, done.stdout.replace(self.urls[at].encode(), b'ROOT'), re.findall(rb'\b[EW](\d{6}):', done.stderr)
+        said, errors = child.communicate(timeout=self.limit)
+        return child.returncode, said.replace(self.urls[at].encode(), b'ROOT'), re.findall(rb'\b[EW](\d{6}):', errors)
+
+    def run(self, at, words):
+        return self.end(at, self.begin(at, words))
+
+    def both(self, words):
+        """The same in both rooms, side by side."""
+        children = [self.begin(at, words) for at in (0, 1)]
+        return [self.end(at, it) for at, it in enumerate(children)]
 
     def same(self, what, due, got):
         if due != got:
@@ -52,8 +65,7 @@ class Copies:
 
     def tells(self, *words, form=lambda it: it):
         """Words that print the same with both URLs, in this form."""
-        both = [self.run(at, words) for at in (0, 1)]
-        due, got = ((status, form(said) if status == 0 else said, numbers) for status, said, numbers in both)
+        due, got = ((status, form(said) if status == 0 else said, numbers) for status, said, numbers in self.both(words))
         return self.same('svn ' + ' '.join(words), due, got)
 
     def sections(self, front, *words):
@@ -76,7 +88,7 @@ class Copies:
     def by_first(self, *words):
         """Words of which both copies know by the first URL alone: the second's is brought to its own again."""
         self.run(1, ['relocate', self.urls[1], self.urls[0], 'wc'])
-        done = [self.run(at, [it.replace('ROOT', self.urls[0]) for it in words]) for at in (0, 1)]
+        done = self.both([it.replace('ROOT', self.urls[0]) for it in words])
         self.same('svn ' + ' '.join(words), *((it[0], it[2]) for it in done))
         status = self.run(1, ['relocate', self.urls[0], self.urls[1], 'wc'])
         self.same('relocate', (0, []), (status[0], status[2]))
