@@ -12,6 +12,7 @@ for these things. The program's own rules stand for them:
   - a command of another form is denied (210004), and the session goes on, where svnserve ends it;
   - a URL is taken as it is spelled: its scheme and host keep their case, and a second slash or a `.` is no path;
   - a revision of 2^64 - 1 is above the head, where svnserve takes it for none;
+  - a change that gives no properties where none were is told as one that gives properties, where svnserve's has none;
   - `get-locations` tells each number as often as it is asked for, and a later one where the node stood on at its path, where
     svnserve tells a number once, and takes a node that was brought back from before the peg for the same.
 """
@@ -386,8 +387,11 @@ class Reads(Server):
         return self.trees[over[-1].source[1]][over[-1].source[0] + path[len(over[-1].path):]]
 
     def has_set_props(self, number, change):
+        """Whether a change gives properties; by svnserve one that leaves none where none were gives none."""
         if change.props is None or change.action == b'delete':
             return False
+        if not AS_SVNSERVE:
+            return bool(change.props) or not change.is_plain()
         old = {}
         if change.source:
             old = self.trees[change.source[1]][change.source[0]]['props']
