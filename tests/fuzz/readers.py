@@ -27,6 +27,9 @@ HOSTILE = [b'18446744073709551616 ', b'-1 ', b'( ) ', b'( ' * 16 + b') ' * 16, b
 class Reader(Asker):
     """A reading client that knows what is there, mostly, and where its session stands."""
 
+    # How often something is said to be at another URL.
+    LINKED = 0.05
+
     def __init__(self, random, server):
         super().__init__(random, server)
         self.root, self.place = random.choice(ROOTS), ()
@@ -176,7 +179,7 @@ class Reader(Asker):
         if way < 0.15:
             return [Word(b'delete-path'), [slashed]]
         number, place, url = self.any_of(numbers), self.place + path, []
-        if way < 0.3:
+        if way < 0.15 + self.LINKED:
             place = self.absolute()
             url = [self.spelled_url(place) if random.random() < 0.9 else self.moved()]
         is_empty = random.random() < 0.2 and self.may_be_empty(place, number)
@@ -260,7 +263,7 @@ class Reader(Asker):
 class WellBehaved(Reader):
     """A reading client that asks as Subversion's own do, and nothing that svnserve answers by other rules than reads.py."""
 
-    LOCATED = [b'get-locations', b'get-location-segments']
+    LOCATED, LINKED = [b'get-locations', b'get-location-segments'], 0.15
 
     def __init__(self, random, server):
         super().__init__(random, server)
