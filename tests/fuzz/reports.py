@@ -273,8 +273,8 @@ class Judged:
 class Reporting(Reads):
     """A repository as readers see it who have working copies of it."""
 
-    # Whether a folder may be reported as it stands at another URL.
-    TAKES_LINKS = False
+    # Whether a command may have a target below the session's place, and a folder be reported as it stands at another URL.
+    TAKES_TARGETS, TAKES_LINKS = True, False
 
     def __init__(self, *words):
         super().__init__(*words)
@@ -322,7 +322,7 @@ class Reporting(Reads):
 
     def ordered(self, target, depth, url=None):
         """Where what is wanted stands; what isn't offered is denied before its report."""
-        if 'update' not in ANSWERED or depth not in (b'infinity', b'unknown') or len(target) > 1:
+        if 'update' not in ANSWERED or depth not in (b'infinity', b'unknown') or len(target) > self.TAKES_TARGETS:
             raise Denied(200007)
         return self.place + target if url is None else self.linked(url)
 
