@@ -127,9 +127,12 @@ class Report:
         if read is None:
             raise Denied(210001)
         try:
-            return name, read(Asked(item[1]))
+            found = read(Asked(item[1]))
         except Refused:
             raise Denied(210004) from None
+        if name == 'link-path' and not self.server.TAKES_LINKS:
+            raise Denied(200007)
+        return name, found
 
     def set_path(self, params):
         return [params.path(), None, *self.state(params)]
@@ -186,7 +189,7 @@ class Report:
             self.tree = placed(self.tree, path, {})
             return None
         _, url, number, is_empty, depth = params
-        if depth != b'infinity' or url is not None and not self.server.TAKES_LINKS:
+        if depth != b'infinity':
             raise Denied(200007)
         self.tree = placed(self.tree, path, self.source(path, url, number, is_empty))
         return None
@@ -274,7 +277,7 @@ class Reporting(Reads):
     """A repository as readers see it who have working copies of it."""
 
     # Whether a command may have a target below the session's place, and a folder be reported as it stands at another URL.
-    TAKES_TARGETS, TAKES_LINKS = True, False
+    TAKES_TARGETS, TAKES_LINKS = False, False
 
     def __init__(self, *words):
         super().__init__(*words)
