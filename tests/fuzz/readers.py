@@ -8,7 +8,7 @@ from sessions import Word
 
 ROOTS = [b'svn://127.0.0.1:3690', b'svn://h', b'svn://H.example:1', b'svn://u@h', b'svn://[::1]:2', b'svn://h?x']
 BAD_URLS = [b'', b'svn:', b'svn://', b'svn:///', b'svn:///a', b'SVN://h/a', b'svn+ssh://h/a', b'http://h/a', b'file:///a', b'/a', b'a', b'svn://h//', b'svn://h/.']
-# Each as often as it is asked for; those behind them seldom. (Where one isn't answered, its denial is due: reads.py.)
+# Each as often as it is asked for; those behind them seldom.
 COMMANDS = [b'get-latest-rev', b'rev-proplist', b'rev-prop', b'get-lock', b'get-locks']
 COMMANDS += 2 * [b'check-path'] + 4 * [b'stat', b'get-file', b'get-dir', b'get-locations', b'log'] + 2 * [b'reparent']
 ORDERS = [b'update', b'switch', b'status', b'diff']

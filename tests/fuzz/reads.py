@@ -33,13 +33,15 @@ NO_URL, OTHER = (170000, 'not a URL of a session'), (170000, 'not the same repos
 NOWHEN = b'1970-01-01T00:00:00.000000Z'
 DEPTHS = [b'empty', b'files', b'immediates', b'infinity', b'unknown']
 
+# Whether the program answers logs, and reports of working copies.
+HAS_LOGS, HAS_REPORTS = True, True
+LATER = {'log': HAS_LOGS} | dict.fromkeys(['update', 'switch', 'status', 'diff'], HAS_REPORTS)
 # The commands that are answered, and those that are denied where they have their form, with the number. (A client that hears
-# that a command is unknown asks for the same by `log`.) What a program doesn't answer yet is moved from above to below.
-LOGS, REPORTS = {'log'}, {'update', 'switch', 'status', 'diff'}
+# that a command is unknown asks for the same by `log`.)
 ANSWERED = {'get-latest-rev', 'check-path', 'get-file', 'get-dir', 'rev-proplist', 'rev-prop', 'stat', 'reparent', 'get-lock', 'get-locks',
-            'get-locations', *LOGS, *REPORTS}
-DENIED = {'change-rev-prop': 200007, 'change-rev-prop2': 200007, 'replay': 200007, 'replay-range': 200007,
-          'get-location-segments': 210001, 'get-file-revs': 210001}
+            'get-locations'} | {name for name, is_answered in LATER.items() if is_answered}
+DENIED = dict.fromkeys(['change-rev-prop', 'change-rev-prop2', 'replay', 'replay-range', *LATER], 200007)
+DENIED |= dict.fromkeys(['get-location-segments', 'get-file-revs'], 210001 if HAS_LOGS else 200007)
 # Those of the latter that are answered here as svnserve does.
 READY = {'get-location-segments'}
 # Whether places of nodes are told as svnserve tells them.

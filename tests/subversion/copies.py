@@ -1,4 +1,5 @@
-"""Two working copies of one repository, each by a URL of its own, which `svn` is given the same words for.
+"""Two working copies of one repository, each by a URL of its own, which `svn` is given the same words for, and what is asked
+of them (tests/subversion/browse).
 
 What a copy has is the same in both: its files, byte for byte, their properties, and what `svn status` and `svn info -R` tell.
 """
@@ -73,7 +74,7 @@ class Copies:
         return self.tells(*words, form=lambda it: parts(it, front))
 
     def is_refused(self, number, *words):
-        """Words that the second URL refuses by this number, in one line, where nothing comes."""
+        """Words that the second URL refuses by this number alone, where nothing comes."""
         status, said, numbers = self.run(1, words)
         self.same('svn %s is refused' % ' '.join(words), (1, [number.encode()], []), (status, numbers, self.came(words)))
 
@@ -141,3 +142,110 @@ def facts(document, is_fresh):
                     above.remove(it)
     root[:] = sorted(root, key=lambda it: it.get('path'))
     return xml.tostring(root)
+
+
+# ---- what is asked of working copies of a repository
+
+def main_of(reader):
+    """A folder that is in most revisions, and another one of the newest: of the branches the one in which most is."""
+    folders = reader.nodes(reader.head)[0]
+    others = [it for it in folders if re.fullmatch('branches/[^/]*|p2', it)]
+    return ('trunk' if 'trunk' in folders else ''), max(others, key=lambda it: sum(other.startswith(it + '/') for other in folders))
+
+
+def older_of(reader, folder):
+    """Revisions in which a folder is there, the newest among them, in an order that goes back and forth."""
+    head = reader.head
+    numbers = [it for it in (head // 2, 1, head - 1, head // 3, head) if not folder or folder in reader.nodes(it)[0]]
+    return numbers
+
+
+def taken(reader):
+    copies, (main, other) = reader.copies(), main_of(reader)
+    for path, number in (('', reader.head), (main, older_of(reader, main)[0]), (other, reader.head)):
+        copies.does('checkout', reader.at(path, number), 'wc')
+        copies.alike('checkout of %s@%d' % (path, number), True)
+        copies.clear()
+        copies.does('export', reader.at(path, number), 'wc')
+        copies.have_files('export of %s@%d' % (path, number))
+        copies.clear()
+    for words in (['no/such'], [reader.nodes(reader.head)[1][0]]):
+        copies.tells('checkout', reader.at(*words), 'wc')
+    copies.tells('checkout', reader.at('', reader.head + 1), 'wc')
+    return copies.fine
+
+
+def updated(reader):
+    copies, (main, _) = reader.copies(), main_of(reader)
+    numbers = older_of(reader, main)
+    copies.does('checkout', reader.at(main), 'wc')
+    for number in numbers:
+        copies.does('update', '-r', str(number), 'wc')
+        copies.alike('update to %d' % number)
+    front = main and main + '/'
+    folders, files = ([it[len(front):] for it in paths if it.startswith(front)] for paths in reader.nodes(reader.head))
+    for number in numbers[:2]:
+        # a copy of several revisions, which both know by the repository itself
+        copies.by_first('update', '-r', str(number), *('wc/' + it for it in folders[:2] + files[-2:]))
+        copies.does('update', '-r', str(numbers[2]), 'wc')
+        copies.alike('update of several to %d' % numbers[2])
+        copies.does('update', 'wc')
+        copies.alike('update of several')
+    if 'targets' in reader.answered:
+        for path in folders[:2] + files[-2:]:
+            copies.does('update', '-r', str(numbers[0]), 'wc/' + path)
+            copies.alike('update of %s to %d' % (path, numbers[0]))
+        copies.does('update', 'wc')
+        copies.alike('update of all')
+        copies.does('update', '-r', str(numbers[0]), 'wc')
+        copies.does('update', *('wc/' + it for it in files[-4:]))
+        copies.alike('update of what may not be there')
+    return copies.fine
+
+
+def switched(reader):
+    copies, (main, other) = reader.copies(), main_of(reader)
+    copies.does('checkout', reader.at(main), 'wc')
+    for path in (other, main):
+        if 'log' in reader.answered:
+            copies.does('switch', reader.at(path), 'wc')
+        copies.does('switch', '--ignore-ancestry', reader.at(path), 'wc')
+        copies.alike('switch to %s' % path)
+    # a folder alone, first by the repository itself
+    front = main and main + '/'
+    inside = [it[len(front):] for it in reader.nodes(reader.head)[0] if it.startswith(front) and it not in (main, other)][0]
+    copies.by_first('switch', '--ignore-ancestry', reader.at(other), 'wc/' + inside)
+    if 'links' not in reader.answered:
+        copies.is_refused('200007', 'update', 'wc')
+        copies.alike('a switched folder that is not updated')
+        return copies.fine
+    for number in (older_of(reader, other)[0], reader.head):
+        copies.does('update', '-r', str(number), 'wc')
+        copies.alike('update of a switched folder to %d' % number)
+    if 'targets' in reader.answered:
+        copies.does('switch', '--ignore-ancestry', reader.at(front + inside), 'wc/' + inside)
+        copies.alike('switch of a folder')
+    return copies.fine
+
+
+def compared(reader):
+    copies, (main, other) = reader.copies(), main_of(reader)
+    numbers, before = older_of(reader, main), max(1, reader.head - 20)
+    for one, two in ((before, reader.head), (reader.head, before), (1, before // 2)):
+        # (of a folder below the root it is a part of another that is asked for)
+        for path in [main, ''] if 'targets' in reader.answered else ['']:
+            copies.sections(b'Index: ', 'diff', '-r', '%d:%d' % (one, two), reader.at(path))
+            copies.sections(b'', 'diff', '--summarize', '-r', '%d:%d' % (one, two), reader.at(path))
+    copies.does('checkout', reader.at(main), 'wc')
+    copies.sections(b'Index: ', 'diff', '-r', str(numbers[0]), 'wc')
+    if 'targets' in reader.answered:
+        copies.sections(b'Index: ', 'diff', '-r', '%d:%d' % (numbers[0], reader.head), 'wc')
+        copies.sections(b'Index: ', 'diff', reader.at(other), reader.at(main))
+    if 'log' in reader.answered:
+        path = 'wc/' + [it[len(main and main + '/'):] for it in reader.nodes(reader.head)[1] if it.startswith(main and main + '/')][-1]
+        for words in (['log', 'wc'], ['log', '-v', '-r', 'BASE:1', path], ['blame', path], ['info', '-r', 'HEAD', path]):
+            copies.tells(*words)
+    copies.sections(b'', 'status', '-u', 'wc')
+    copies.does('update', '-r', str(reader.head - 1), 'wc')
+    copies.sections(b'', 'status', '-u', '-v', 'wc')
+    return copies.fine
