@@ -116,6 +116,7 @@ fn is_edit(rt: &impl Abort, alloc: Global, from: u16, base: u16, to: u16, expect
         base: Some(RevNo::new(base)),
         identity: b"6a1f0c3e-0000-4000-8000-0000000000a1",
         revisions: revisions.as_slice(),
+        tells_root: true,
     };
     let out = send_update(alloc, &reported, &facts, Vec::new(alloc)).expect(rt, "memory");
     out.as_slice() == expected
@@ -160,6 +161,7 @@ fn is_edit_to(
         base: Some(RevNo::new(base)),
         identity: b"6a1f0c3e-0000-4000-8000-0000000000a1",
         revisions: revisions.as_slice(),
+        tells_root: true,
     };
     let out = send_update(alloc, reported, &facts, Vec::new(alloc)).expect(rt, "memory");
     out.as_slice() == expected
