@@ -78,7 +78,7 @@ fn base_at<P: RepoPort>(port: &mut P, revision: u64) -> Result<RevNo, Stop>
     ensures stays { PortStays P.repository P.refusals P.is_mirror port.old port.new }
 {
     match tree_asked(port, Some(revision)) {
-        Ok((number, _)) => Ok(number),
+        Ok((number, _tree)) => Ok(number),
         Err(fault) => Err(stopped(fault)),
     }
 }
