@@ -53,8 +53,8 @@ plan_wanted x at n p t rs w k m l r h d i c =
     then_comes k m l (wanted_denied x n p) (reports_denied x at t v rs) (IsPlanOf x (reported x at t v rs) (base_of rs) (same_path t []) w) (IsPlan x at n p t rs) r h d
     (λ a e. record { wants = subst (IsWanted x n p) (sym e.0) i; has = e.1; tells_root = e.4; identity = e.2; revisions = e.3 ∙ ap (λ u. take (suc u.number) (all_props x)) (sym e.0) })
     (
-      subst (λ o. Comes m l o (IsPlanOf x (reported x at t v rs) (base_of rs) (same_path t []) w) r) (first_alone (reports_denied x at t v rs) (no_revision x w.number) there)
-      (subst (λ u. Comes m l (option_or (reports_denied x at t u rs) (no_revision x w.number)) (IsPlanOf x (reported x at t u rs) (base_of rs) (same_path t []) w) r) (known_is x n p w i) c)
+    subst (λ o. Comes m l o (IsPlanOf x (reported x at t v rs) (base_of rs) (same_path t []) w) r) (first_alone (reports_denied x at t v rs) (no_revision x w.number) there)
+    (subst (λ u. Comes m l (option_or (reports_denied x at t u rs) (no_revision x w.number)) (IsPlanOf x (reported x at t u rs) (base_of rs) (same_path t []) w) r) (known_is x n p w i) c)
     )
 
 -- ---- the answer

@@ -37,9 +37,9 @@ pub part_first : (x : Repository) (at : Url) (t : Path) (w : Known) (c : Report)
 part_first x at t w c cs rs base k m l r e less d b h =
     subst (λ a. Comes k l (part_denied x at t w a) (IsCopy (part_known x at t w a) (base_of a)) r) (sym e)
     (
-      then_comes k m l (opens_denied x c) (option_or (aims_denied t (c ∷ cs)) (later_denied x at w (map (aimed t) (c ∷ cs)))) (IsCopy (part_known x at t w (c ∷ cs)) (Some base)) (IsCopy (part_known x at t w (c ∷ cs)) (base_of (c ∷ cs))) r less d
-      (λ v i. record { report = i.report; base_is = i.base_is ∙ b })
-      (subst (λ a. Comes m l (option_or (aims_denied t a) (later_denied x at w (map (aimed t) a))) (IsCopy (part_known x at t w a) (Some base)) r) e h)
+    then_comes k m l (opens_denied x c) (option_or (aims_denied t (c ∷ cs)) (later_denied x at w (map (aimed t) (c ∷ cs)))) (IsCopy (part_known x at t w (c ∷ cs)) (Some base)) (IsCopy (part_known x at t w (c ∷ cs)) (base_of (c ∷ cs))) r less d
+    (λ v i. record { report = i.report; base_is = i.base_is ∙ b })
+    (subst (λ a. Comes m l (option_or (aims_denied t a) (later_denied x at w (map (aimed t) a))) (IsCopy (part_known x at t w a) (Some base)) r) e h)
     )
 
 pub part_stops : (x : Repository) (at : Url) (t : Path) (w : Known) (c : Report) (cs rs : List Report) (p n : ℕ) (s : Stop) → rs ≡ c ∷ cs → MayStop p n (opens_denied x c) s → MayStop p n (part_denied x at t w rs) s
