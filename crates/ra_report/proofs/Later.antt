@@ -1,15 +1,12 @@
 -- Commands of a report one after another.
-use Rattle.std.proofs.Common.{◌≡◌, ℕ, zero, suc, ◌+◌, ◌≤◌, ◌<◌, List, [], ◌∷◌, map, drop, length, get_or, Option, Some, None, Result, refl, sym, ap, subst, ◌∙◌, arith}
+use Rattle.std.proofs.Common.{◌≡◌, ℕ, zero, suc, ◌+◌, ◌≤◌, ◌<◌, List, [], ◌∷◌, map, drop, length, get_or, Some, None, Result, refl, sym, ap, subst, ◌∙◌, arith}
 use Rattle.std.proofs.Math.Seq.{drop-cons}
-use Rattle.std.specs.Option.{option_or}
 use Rattle.node_base.specs.Path.{Path}
-use Rattle.tree_reports.specs.Applied.{Content}
 use Rattle.tree_reports.specs.Reports.{content_at}
 use Rattle.browse_wire.specs.Reports.{Report, report_as}
 use Rattle.browse_wire.specs.declared.report.ReportCommand.{ReportCommand}
 use Rattle.browse_wire.specs.Urls.{Url}
 use Rattle.repo_core.specs.Repository.{Repository}
-use Rattle.ra_browse.specs.declared.denial.Denial.{Denial}
 use Rattle.ra_browse.specs.declared.stop.Stop.{Stop}
 use Rattle.ra_browse.specs.Tellings.{Comes, MayStop}
 use Rattle.ra_report.specs.Plans.{IsCopy}

@@ -1,5 +1,5 @@
 -- The plan of an edit, and what comes of it.
-use Rattle.std.proofs.Common.{◌≡◌, ℕ, suc, ◌≤◌, take, inl, inr, Bool, true, false, List, [], Option, Some, None, is_some, is_none, Result, Ok, Err, refl, sym, ap, subst, ◌∙◌, arith}
+use Rattle.std.proofs.Common.{◌≡◌, ℕ, suc, ◌≤◌, take, inl, inr, Bool, true, false, List, [], Option, Some, None, is_none, Result, Ok, Err, refl, sym, ap, subst, ◌∙◌, arith}
 use Rattle.std.specs.Prelude.{IfOk}
 use Rattle.std.specs.Option.{option_map, option_or}
 use Rattle.std.specs.FinMap as finite
@@ -24,7 +24,7 @@ use Rattle.ra_browse.specs.Tellings.{Comes, MayStop, TellsStop}
 use Rattle.ra_report.specs.Edits.{Edit, IsEdit, EditsIf, all_props, edit_told, report_denied}
 use Rattle.ra_report.specs.Finishing.{Finished, Finishes}
 use Rattle.ra_report.specs.Orders.{order_denied, wanted_denied, wanted_known, revision_of, place_of, target_of, IsOrder}
-use Rattle.ra_report.specs.Plans.{IsWanted, IsCopy, IsPlan, IsPlanOf, IsEditOf, TellsPlan}
+use Rattle.ra_report.specs.Plans.{IsWanted, IsPlan, IsPlanOf, IsEditOf, TellsPlan}
 use Rattle.ra_report.specs.Reports.{reports_denied, reported, base_of}
 use Rattle.ra_report.specs.declared.order.Order.{Order}
 use Rattle.ra_report.specs.declared.plan.Plan.{Plan}
