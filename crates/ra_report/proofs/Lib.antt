@@ -5,4 +5,5 @@ pub mod Planning
 pub mod Sending
 pub mod Sharing
 pub mod Takes
+pub mod Targets
 pub mod Urls

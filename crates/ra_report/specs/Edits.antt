@@ -2,7 +2,7 @@
 use Rattle.std.specs.Prelude.{◌≡◌, ℕ, suc, take, Bool, true, false, List, [], ◌∷◌, ◌++◌, map, Option, Some, None}
 use Rattle.std.specs.Option.{option_or}
 use Rattle.std.specs.FinMap as finite
-use Rattle.node_base.specs.Path.{Path}
+use Rattle.node_base.specs.Path.{Path, same_path}
 use Rattle.node_base.specs.Props.{PropMap}
 use Rattle.node_base.specs.Tree.{PathMap}
 use Rattle.dump_load.specs.declared.change.Change.{Change}
@@ -25,12 +25,12 @@ use Rattle.ra_update.specs.declared.facts.Facts.{Facts}
 use Rattle.ra_browse.specs.declared.denial.Denial.{Denial}
 use Rattle.ra_browse.specs.Denials.{unless_denied}
 use Rattle.ra_browse.specs.Histories.{is_looked_at}
-use Rattle.ra_report.specs.Orders.{order_denied, wanted_denied, revision_of, place_of}
+use Rattle.ra_report.specs.Orders.{order_denied, wanted_denied, wanted_known, revision_of, place_of, target_of}
 use Rattle.ra_report.specs.Reports.{reports_denied, reported, base_of}
 
 -- why a report is answered by no edit
 abbrev pub report_denied : Repository → Url → Ask → List Report → Option Denial
-report_denied x at c rs = option_or (order_denied at c) (option_or (wanted_denied x (revision_of c) (place_of at c)) (reports_denied x at rs))
+report_denied x at c rs = option_or (order_denied at c) (option_or (wanted_denied x (revision_of c) (place_of at c)) (reports_denied x at (target_of c) (wanted_known x (revision_of c) (place_of at c)) rs))
 
 -- what was reported, what is wanted with what is told beside it, and the changes that make the one of the other
 pub record Edit : Type 0 where
@@ -48,9 +48,10 @@ calls e = calls_told e.facts (e.reported ∷ []) e.changes
 abbrev pub all_props : Repository → List PropMap
 all_props x = map (λ r. r.props) x.revisions
 
--- of what a working copy reports it makes what stands at a place of a revision
-pub record IsEdit (x : Repository) (at : Url) (n : Option ℕ) (place : Path) (rs : List Report) (e : Edit) : Type 0 where
-  pub reports : (q : Path) → content_at e.reported q ≡ reported x at rs q
+-- of what a working copy reports it makes what stands at a place of a revision; beside a target nothing differs, and nothing is told
+pub record IsEdit (x : Repository) (at : Url) (n : Option ℕ) (place t : Path) (rs : List Report) (e : Edit) : Type 0 where
+  pub reports : (q : Path) → content_at e.reported q ≡ reported x at t (wanted_known x n place) rs q
+  pub tells_root : e.facts.tells_root ≡ same_path t []
   pub wants : (q : Path) → finite.get (wanted e) q ≡ node_in x (asked x n) (place ++ q)
   pub number : e.facts.number ≡ asked x n
   pub base : e.facts.base ≡ base_of rs
@@ -73,7 +74,7 @@ maybe_told (Some e) = edit_told e
 -- the edit where one is sent, and none where none is
 abbrev pub EditsIf : Bool → Repository → Url → Ask → List Report → Option Edit → Type 0
 EditsIf true x at c rs None = ⊥
-EditsIf true x at c rs (Some e) = IsEdit x at (revision_of c) (place_of at c) rs e
+EditsIf true x at c rs (Some e) = IsEdit x at (revision_of c) (place_of at c) (target_of c) rs e
 EditsIf false x at c rs o = o ≡ None
 
 -- one is where nothing is denied, and the port refused nothing by itself

@@ -1,8 +1,8 @@
 -- What an edit is made of, as it is in code.
-use Rattle.std.specs.Prelude.{◌≡◌, ℕ, suc, take, List, ◌++◌, Option, Some}
+use Rattle.std.specs.Prelude.{◌≡◌, ℕ, Bool, suc, take, List, [], ◌++◌, Option, Some}
 use Rattle.std.specs.FinMap as finite
 use Rattle.std.specs.Io.KnownBytes.{Appends}
-use Rattle.node_base.specs.Path.{Path}
+use Rattle.node_base.specs.Path.{Path, same_path}
 use Rattle.tree_changes.specs.Changes.{AreBetween}
 use Rattle.tree_reports.specs.Reports.{content_at}
 use Rattle.browse_wire.specs.Reports.{Report}
@@ -10,6 +10,7 @@ use Rattle.browse_wire.specs.Urls.{Url}
 use Rattle.repo_core.specs.Repository.{Repository}
 use Rattle.ra_serve.specs.Answers.{asked, node_in}
 use Rattle.ra_update.specs.Sent.{Make}
+use Rattle.ra_report.specs.Orders.{wanted_known}
 use Rattle.ra_report.specs.Reports.{Known, reported, base_of}
 use Rattle.ra_report.specs.Edits.{Edit, wanted, calls, all_props}
 use Rattle.ra_report.specs.declared.plan.Wanted as declared_wanted
@@ -27,18 +28,19 @@ pub record IsCopy (known : Known) (base : Option ℕ) (c : declared_copy.Working
   pub base_is : Some c.base ≡ base
 
 -- both, and what is told beside them
-pub record IsPlan (x : Repository) (at : Url) (n : Option ℕ) (place : Path) (rs : List Report) (p : declared.Plan) : Type 0 where
+pub record IsPlan (x : Repository) (at : Url) (n : Option ℕ) (place t : Path) (rs : List Report) (p : declared.Plan) : Type 0 where
   pub wants : IsWanted x n place p.wanted
-  pub has : IsCopy (reported x at rs) (base_of rs) p.copy
+  pub has : IsCopy (reported x at t (wanted_known x n place) rs) (base_of rs) p.copy
+  pub tells_root : p.tells_root ≡ same_path t []
   pub identity : p.identity ≡ x.identity
   pub revisions : p.revisions.items ≡ take (suc p.wanted.number) (all_props x)
 
 -- of what is wanted, and of what is reported
-abbrev pub IsPlanOf : Repository → Known → Option ℕ → declared_wanted.Wanted → declared.Plan → Type 0
-IsPlanOf x known base w p = (p.wanted ≡ w) × IsCopy known base p.copy × (p.identity ≡ x.identity) × (p.revisions.items ≡ take (suc w.number) (all_props x))
+abbrev pub IsPlanOf : Repository → Known → Option ℕ → Bool → declared_wanted.Wanted → declared.Plan → Type 0
+IsPlanOf x known base b w p = (p.wanted ≡ w) × IsCopy known base p.copy × (p.identity ≡ x.identity) × (p.revisions.items ≡ take (suc w.number) (all_props x)) × (p.tells_root ≡ b)
 
-abbrev pub IsPlanned : Repository → declared_wanted.Wanted → declared_copy.WorkingCopy → declared.Plan → Type 0
-IsPlanned x w c p = (p.wanted ≡ w) × (p.copy ≡ c) × (p.identity ≡ x.identity) × (p.revisions.items ≡ take (suc w.number) (all_props x))
+abbrev pub IsPlanned : Repository → declared_wanted.Wanted → declared_copy.WorkingCopy → Bool → declared.Plan → Type 0
+IsPlanned x w c b p = (p.wanted ≡ w) × (p.copy ≡ c) × (p.identity ≡ x.identity) × (p.revisions.items ≡ take (suc w.number) (all_props x)) × (p.tells_root ≡ b)
 
 -- the edit of a plan
 pub record IsEditOf (p : declared.Plan) (identity : List ℕ) (e : Edit) : Type 0 where
@@ -48,6 +50,7 @@ pub record IsEditOf (p : declared.Plan) (identity : List ℕ) (e : Edit) : Type 
   pub base : e.facts.base ≡ Some p.copy.base
   pub identity_is : e.facts.identity.now ≡ identity
   pub revisions : e.facts.revisions.now ≡ p.revisions.items
+  pub tells_root : e.facts.tells_root ≡ p.tells_root
   pub between : AreBetween e.reported (wanted e) e.changes
   pub makes : Make e.reported (wanted e) (calls e)
 

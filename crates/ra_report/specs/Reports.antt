@@ -1,5 +1,5 @@
 -- What a working copy reports that it has, command by command. The nodes' numbers don't count.
-use Rattle.std.specs.Prelude.{ℕ, Bool, true, false, not, ◌&&◌, List, [], ◌∷◌, ◌++◌, Option, Some, None, is_some, is_none, if◌then◌else◌}
+use Rattle.std.specs.Prelude.{ℕ, Bool, true, false, not, ◌&&◌, List, [], ◌∷◌, ◌++◌, map, Option, Some, None, is_some, is_none, if◌then◌else◌}
 use Rattle.std.specs.Option.{option_map, option_map_or, option_or}
 use Rattle.std.specs.FinMap as finite
 use Rattle.node_base.specs.Limits.{fits}
@@ -99,6 +99,37 @@ next_known x at k (DeletePath p) = placed k p (λ _. None)
 next_known x at k FinishReport = k
 next_known x at k AbortReport = k
 
+-- ---- a target
+
+-- the first command is the target's own, of a revision that is there
+abbrev pub opens_denied : Repository → Report → Option Denial
+opens_denied x (SetPath r) = option_or (fault_if (not (same_path r.path [])) denial.BadReport) (no_revision x r.revision)
+opens_denied x c = Some denial.BadReport
+
+-- a path behind a target; a lock's token counts for nothing
+abbrev pub behind : Path → Reported → Reported
+behind t r = record { path = t ++ r.path; revision = r.revision; start_empty = r.start_empty; token = None; depth = r.depth }
+
+-- a command of a target as one of the folder
+abbrev pub aimed : Path → Report → Report
+aimed t (SetPath r) = SetPath (behind t r)
+aimed t (LinkPath r url) = LinkPath (behind t r) url
+aimed t (DeletePath p) = DeletePath (t ++ p)
+aimed t FinishReport = FinishReport
+aimed t AbortReport = AbortReport
+
+-- a path passes the limits there
+abbrev pub aim_denied : Path → Report → Option Denial
+aim_denied t (SetPath r) = fault_if (not (fits (t ++ r.path))) denial.NoPath
+aim_denied t (LinkPath r url) = fault_if (not (fits (t ++ r.path))) denial.NoPath
+aim_denied t (DeletePath p) = fault_if (not (fits (t ++ p))) denial.NoPath
+aim_denied t FinishReport = None
+aim_denied t AbortReport = None
+
+abbrev pub aims_denied : Path → List Report → Option Denial
+aims_denied t [] = None
+aims_denied t (c ∷ cs) = option_or (aim_denied t c) (aims_denied t cs)
+
 -- ---- all of them
 
 abbrev pub later_denied : Repository → Url → Known → List Report → Option Denial
@@ -109,15 +140,32 @@ abbrev pub later_known : Repository → Url → Known → List Report → Known
 later_known x at k [] = k
 later_known x at k (c ∷ cs) = later_known x at (next_known x at k c) cs
 
+-- a report of the folder
+abbrev pub whole_denied : Repository → Url → List Report → Option Denial
+whole_denied x at [] = Some denial.BadReport
+whole_denied x at (c ∷ cs) = option_or (begin_denied x at.1 c) (later_denied x at (begin_known x at.1 c) cs)
+
+abbrev pub whole_known : Repository → Url → List Report → Known
+whole_known x at [] = λ _. None
+whole_known x at (c ∷ cs) = later_known x at (begin_known x at.1 c) cs
+
+-- a report of a target: its commands are taken over what is wanted, so that nothing else differs
+abbrev pub part_denied : Repository → Url → Path → Known → List Report → Option Denial
+part_denied x at t w [] = Some denial.BadReport
+part_denied x at t w (c ∷ cs) = option_or (opens_denied x c) (option_or (aims_denied t (c ∷ cs)) (later_denied x at w (map (aimed t) (c ∷ cs))))
+
+abbrev pub part_known : Repository → Url → Path → Known → List Report → Known
+part_known x at t w cs = later_known x at w (map (aimed t) cs)
+
 -- why a report isn't taken
-abbrev pub reports_denied : Repository → Url → List Report → Option Denial
-reports_denied x at [] = Some denial.BadReport
-reports_denied x at (c ∷ cs) = option_or (begin_denied x at.1 c) (later_denied x at (begin_known x at.1 c) cs)
+abbrev pub reports_denied : Repository → Url → Path → Known → List Report → Option Denial
+reports_denied x at [] w cs = whole_denied x at cs
+reports_denied x at (n ∷ t) w cs = part_denied x at (n ∷ t) w cs
 
 -- what is reported at each path
-abbrev pub reported : Repository → Url → List Report → Known
-reported x at [] = λ _. None
-reported x at (c ∷ cs) = later_known x at (begin_known x at.1 c) cs
+abbrev pub reported : Repository → Url → Path → Known → List Report → Known
+reported x at [] w cs = whole_known x at cs
+reported x at (n ∷ t) w cs = part_known x at (n ∷ t) w cs
 
 abbrev pub base_of : List Report → Option ℕ
 base_of [] = None

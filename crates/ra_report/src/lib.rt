@@ -10,9 +10,11 @@
 pub use answer::finish;
 pub use order::{awaits_report, ordered};
 
+mod aim;
 mod answer;
 mod folder;
 mod order;
+mod part;
 mod plan;
 mod report;
 mod revisions;

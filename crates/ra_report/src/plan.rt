@@ -1,13 +1,15 @@
 //! What an edit is made of.
 
-ghost use Rattle.std.specs.Prelude.{◌≡◌, map};
+ghost use Rattle.std.specs.Prelude.{◌≡◌, [], map};
 ghost use Rattle.std.specs.Option.{option_or};
 ghost use Rattle.browse_wire.specs.Asks.{ask_as};
 ghost use Rattle.browse_wire.specs.Reports.{report_as};
+ghost use Rattle.node_base.specs.Path.{same_path};
 ghost use Rattle.ra_browse.specs.Answers.{no_revision};
+ghost use Rattle.tree_reports.specs.Reports.{content_at};
 ghost use Rattle.ra_browse.specs.Tellings.{place_as, Finds, PortStays};
 ghost use Rattle.ra_report.specs.Edits.{report_denied};
-ghost use Rattle.ra_report.specs.Orders.{revision_of, place_of, wanted_denied};
+ghost use Rattle.ra_report.specs.Orders.{revision_of, place_of, target_of, wanted_denied, wanted_known};
 ghost use Rattle.ra_report.specs.Plans.{IsPlan, IsPlanOf, IsPlanned};
 ghost use Rattle.ra_report.specs.Reports.{reports_denied, reported, base_of};
 
@@ -18,7 +20,7 @@ use crate::revisions::props_up_to;
 use browse_wire::ask::BrowseCommand;
 use browse_wire::report::ReportCommand;
 use browse_wire::url::SessionUrl;
-use node_base::{Props, RevNo};
+use node_base::{NodePath, Props, RevNo};
 use path_tree::Tree;
 use ra_browse::Stop;
 use ra_serve::RepoPort;
@@ -48,6 +50,8 @@ pub struct Plan {
     pub identity: Uuid,
     /// The properties of the revisions up to the one that is wanted.
     pub revisions: Vec<Props>,
+    /// Whether something is told of the folder itself.
+    pub tells_root: bool,
 }
 
 /// The plan of a command and its report.
@@ -61,7 +65,7 @@ pub fn plan_of<P: RepoPort>(
     ensures found { Finds P.repository P.refusals
         (λ x. report_denied x (place_as place.now) (ask_as command.now) (map report_as report.now))
         (λ x p. IsPlan x (place_as place.now) (revision_of (ask_as command.now))
-        (place_of (place_as place.now) (ask_as command.now)) (map report_as report.now) p) port.old port.new result }
+        (place_of (place_as place.now) (ask_as command.now)) (target_of (ask_as command.now)) (map report_as report.now) p) port.old port.new result }
     ensures stays { PortStays P.repository P.refusals P.is_mirror port.old port.new }
 {
     match order_of(alloc, place, command) {
@@ -79,13 +83,14 @@ fn plan_for<P: RepoPort>(
     report: &[ReportCommand],
 ) -> Result<Plan, Stop>
     ensures found { Finds P.repository P.refusals (λ x. option_or (wanted_denied x order.now.revision order.now.path)
-        (reports_denied x (place_as place.now) (map report_as report.now)))
-        (λ x p. IsPlan x (place_as place.now) order.now.revision order.now.path (map report_as report.now) p)
+        (reports_denied x (place_as place.now) order.now.target (wanted_known x order.now.revision order.now.path)
+        (map report_as report.now)))
+        (λ x p. IsPlan x (place_as place.now) order.now.revision order.now.path order.now.target (map report_as report.now) p)
         port.old port.new result }
     ensures stays { PortStays P.repository P.refusals P.is_mirror port.old port.new }
 {
     match look_up(alloc, port, order.revision, &order.path) {
-        Ok(wanted) => plan_from(alloc, port, place, wanted, report),
+        Ok(wanted) => plan_from(alloc, port, place, &order.target, wanted, report),
         Err(stop) => Err(stop),
     }
 }
@@ -95,17 +100,20 @@ fn plan_from<P: RepoPort>(
     alloc: Global,
     port: &mut P,
     place: &SessionUrl,
+    target: &NodePath,
     wanted: Wanted,
     report: &[ReportCommand],
 ) -> Result<Plan, Stop>
     ensures found { Finds P.repository P.refusals
-        (λ x. option_or (reports_denied x (place_as place.now) (map report_as report.now)) (no_revision x wanted.number))
-        (λ x p. IsPlanOf x (reported x (place_as place.now) (map report_as report.now)) (base_of (map report_as report.now)) wanted p)
+        (λ x. option_or (reports_denied x (place_as place.now) target.now (content_at wanted.tree) (map report_as report.now))
+        (no_revision x wanted.number))
+        (λ x p. IsPlanOf x (reported x (place_as place.now) target.now (content_at wanted.tree) (map report_as report.now))
+        (base_of (map report_as report.now)) (same_path target.now []) wanted p)
         port.old port.new result }
     ensures stays { PortStays P.repository P.refusals P.is_mirror port.old port.new }
 {
-    match working_copy(alloc, port, place, report) {
-        Ok(copy) => planned(alloc, port, wanted, copy),
+    match working_copy(alloc, port, place, target, &wanted.tree, report) {
+        Ok(copy) => planned(alloc, port, wanted, copy, target.is_root()),
         Err(stop) => Err(stop),
     }
 }
@@ -116,9 +124,10 @@ fn planned<P: RepoPort>(
     port: &mut P,
     wanted: Wanted,
     copy: WorkingCopy,
+    tells_root: bool,
 ) -> Result<Plan, Stop>
     ensures found { Finds P.repository P.refusals (λ x. no_revision x wanted.number)
-        (λ x p. IsPlanned x wanted copy p) port.old port.new result }
+        (λ x p. IsPlanned x wanted copy tells_root p) port.old port.new result }
     ensures stays { PortStays P.repository P.refusals P.is_mirror port.old port.new }
 {
     let identity = port.identity();
@@ -128,6 +137,7 @@ fn planned<P: RepoPort>(
             copy,
             identity,
             revisions,
+            tells_root,
         }),
         Err(stop) => Err(stop),
     }

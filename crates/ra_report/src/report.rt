@@ -12,9 +12,10 @@ ghost use Rattle.ra_browse.specs.Tellings.{place_as, Decides, Finds, PortStays};
 ghost use Rattle.std.specs.FinMap as finite;
 ghost use Rattle.ra_report.specs.Plans.{IsCopy};
 ghost use Rattle.ra_report.specs.Reports.{begin_denied, begin_known, begun, base_in, base_of};
-ghost use Rattle.ra_report.specs.Reports.{later_denied, later_known, reports_denied, reported};
+ghost use Rattle.ra_report.specs.Reports.{later_denied, later_known, reports_denied, reported, whole_denied, whole_known};
 
 use crate::folder::tree_at;
+use crate::part::part;
 use crate::plan::WorkingCopy;
 use crate::take::{shallow_denied, take};
 use browse_wire::report::{ReportCommand, Reported};
@@ -26,16 +27,37 @@ use ra_serve::RepoPort;
 use std::alloc::Global;
 use tree_reports::Report;
 
-/// What is reported.
+/// What is reported, of a target over what is wanted.
 pub fn working_copy<P: RepoPort>(
+    alloc: Global,
+    port: &mut P,
+    place: &SessionUrl,
+    target: &NodePath,
+    wanted: &Tree,
+    report: &[ReportCommand],
+) -> Result<WorkingCopy, Stop>
+    ensures found { Finds P.repository P.refusals
+        (λ x. reports_denied x (place_as place.now) target.now (content_at wanted.now) (map report_as report.now))
+        (λ x c. IsCopy (reported x (place_as place.now) target.now (content_at wanted.now) (map report_as report.now))
+        (base_of (map report_as report.now)) c) port.old port.new result }
+    ensures stays { PortStays P.repository P.refusals P.is_mirror port.old port.new }
+{
+    if target.is_root() {
+        return whole(alloc, port, place, report);
+    }
+    part(alloc, port, place, target, wanted, report)
+}
+
+// What is reported of the folder.
+fn whole<P: RepoPort>(
     alloc: Global,
     port: &mut P,
     place: &SessionUrl,
     report: &[ReportCommand],
 ) -> Result<WorkingCopy, Stop>
     ensures found { Finds P.repository P.refusals
-        (λ x. reports_denied x (place_as place.now) (map report_as report.now))
-        (λ x c. IsCopy (reported x (place_as place.now) (map report_as report.now)) (base_of (map report_as report.now)) c)
+        (λ x. whole_denied x (place_as place.now) (map report_as report.now))
+        (λ x c. IsCopy (whole_known x (place_as place.now) (map report_as report.now)) (base_of (map report_as report.now)) c)
         port.old port.new result }
     ensures stays { PortStays P.repository P.refusals P.is_mirror port.old port.new }
 {
@@ -140,8 +162,8 @@ fn begun_in(alloc: Global, tree: &Tree, folder: &NodePath, empty: bool) -> Resul
     }
 }
 
-// The same behind the first command.
-fn go_on<P: RepoPort>(
+/// What is reported behind other commands.
+pub(crate) fn go_on<P: RepoPort>(
     alloc: Global,
     port: &mut P,
     place: &SessionUrl,

@@ -62,6 +62,7 @@ fn send_with<W: Write + Drop>(
         base: Some(plan.copy.base),
         identity,
         revisions: plan.revisions.as_slice(),
+        tells_root: plan.tells_root,
     };
     match send_update(alloc, plan.copy.report.tree(), &facts, out) {
         Ok(out) => Ok(out),

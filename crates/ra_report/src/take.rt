@@ -152,8 +152,8 @@ fn bring_from(
     }
 }
 
-// A path behind the folder's.
-fn path_in(alloc: Global, folder: &NodePath, path: &NodePath) -> Result<NodePath, Stop>
+/// A path behind the folder's.
+pub fn path_in(alloc: Global, folder: &NodePath, path: &NodePath) -> Result<NodePath, Stop>
     ensures { Decides (fault_if (not (fits (folder.now ++ path.now))) NoPath) (λ p. p ≡ folder.now ++ path.now) result }
 {
     match joined(alloc, folder, path.names()) {

@@ -21,7 +21,7 @@ const UNSUPPORTED: &[u8] = b"( failure ( ( 200007 13:not supported 0: 0 ) ) ) ";
 const NEWEST: &[u8] = b"( update ( ( ) 0: true ) )";
 
 // Where a session stands, what it asks and reports, and what it is told.
-const ROWS: [(&[u8], &[u8], &[u8], &[u8]); 18] = [
+const ROWS: [(&[u8], &[u8], &[u8], &[u8]); 22] = [
     (
         b"svn://h",
         b"( update ( ( 4 ) 0: true ) )",
@@ -122,9 +122,33 @@ const ROWS: [(&[u8], &[u8], &[u8], &[u8]); 18] = [
     ),
     (
         b"svn://h",
-        b"( update ( ( ) 5:trunk true ) )",
+        b"( update ( ( ) 9:trunk/lib true ) )",
         b"( set-path ( 0: 3 true ) ) ",
         UNSUPPORTED,
+    ),
+    (
+        b"svn://h",
+        b"( switch ( ( ) 5:trunk true 12:svn://h/tags ) )",
+        b"( set-path ( 0: 3 true ) ) ",
+        UNSUPPORTED,
+    ),
+    (
+        b"svn://h",
+        b"( update ( ( ) 5:trunk true ) )",
+        b"",
+        BAD_REPORT,
+    ),
+    (
+        b"svn://h",
+        b"( update ( ( ) 5:trunk true ) )",
+        b"( set-path ( 3:lib 3 true ) ) ",
+        BAD_REPORT,
+    ),
+    (
+        b"svn://h/trunk",
+        b"( update ( ( ) 3:lib true ) )",
+        b"( set-path ( 0: 3 false ) ) ( set-path ( 3:a.c 1 false ) ) ",
+        BAD_REPORT,
     ),
 ];
 
@@ -161,11 +185,20 @@ fn reports(rt: HostRuntime) {
 }
 
 // Commands, and whether a report follows them; 0 where they are ordered, or a failure's number.
-const ORDERS: [(&[u8], bool, u64); 10] = [
+const ORDERS: [(&[u8], bool, u64); 15] = [
     (b"( update ( ( ) 0: true ) )", true, 0),
     (b"( update ( ( 9 ) 0: true unknown false false ) )", true, 0),
     (b"( update ( ( ) 0: false ) )", true, 200_007),
-    (b"( update ( ( ) 1:a true ) )", true, 200_007),
+    (b"( update ( ( ) 1:a true ) )", true, 0),
+    (b"( update ( ( ) 1:a false ) )", true, 200_007),
+    (b"( update ( ( ) 3:a/b true ) )", true, 200_007),
+    (b"( switch ( ( ) 1:a true 15:svn://h/trunk/a ) )", true, 0),
+    (b"( switch ( ( ) 1:a true 9:svn://h/a ) )", true, 200_007),
+    (
+        b"( diff ( ( ) 1:a true false 17:svn://h/trunk/a/b ) )",
+        true,
+        200_007,
+    ),
     (b"( status ( 0: true ) )", true, 0),
     (b"( status ( 0: false ) )", true, 200_007),
     (b"( switch ( ( ) 0: true 14:svn://h/a/b%20 ) )", true, 0),

@@ -14,3 +14,5 @@ mod growth_tests;
 mod reports;
 #[cfg(test)]
 mod site;
+#[cfg(test)]
+mod target_tests;

@@ -14,7 +14,7 @@ use Rattle.delta_editor.proofs.CallLemmas.{all_called-append, get-prop_put}
 use Rattle.delta_editor.specs.declared.call.Call.{Call}
 use Rattle.delta_editor.specs.declared.call.Call.TheVariants as call
 use Rattle.ra_update.specs.Alike.{is_entry, IsLike, AreAlike}
-use Rattle.ra_update.specs.Entries.{given, entry_props, entry_calls, updated, all_updated}
+use Rattle.ra_update.specs.Entries.{given, entry_props, entry_calls, root_calls, updated, all_updated}
 use Rattle.ra_update.specs.declared.facts.Facts.{Facts}
 
 abbrev Nodes : Type 0
@@ -116,6 +116,12 @@ dir_told trees k p f e a = elim (finite.get k.target.now p) as (λ o. Alike f (a
   | Some x ↦ dirs_told trees p (entry_props k x) (are_entries k x) f e a
 ]
 
+root_told : (trees : List PathMap) (k : Facts) (f e : Nodes) → Alike f e → Alike f (all_called trees e (root_calls k))
+root_told trees k f e a = elim k.tells_root as (λ b. Alike f (all_called trees e (cond b (entry_calls k call.DirProp []) []))) [
+  | true ↦ dir_told trees k [] f e a
+  | false ↦ a
+]
+
 file_told : (trees : List PathMap) (k : Facts) (p : Path) (f e : Nodes) → Alike f e → Alike f (all_called trees e (entry_calls k call.FileProp p))
 file_told trees k p f e a = elim (finite.get k.target.now p) as (λ o. Alike f (all_called trees e (option_map_or (λ x. given (call.FileProp p) (entry_props k x)) o []))) [
   | None ↦ a
@@ -125,7 +131,7 @@ file_told trees k p f e a = elim (finite.get k.target.now p) as (λ o. Alike f (
 -- a call, and the same with what is told beside it
 updated_alike : (trees : List PathMap) (k : Facts) (f e : Nodes) (c : Call) → Alike f e → Alike (called trees f c) (all_called trees e (updated k c))
 updated_alike trees k f e (call.Target n) a = a
-updated_alike trees k f e (call.OpenRoot base) a = dir_told trees k [] (called trees f (call.OpenRoot base)) (called trees e (call.OpenRoot base)) (called_both trees f e (call.OpenRoot base) a)
+updated_alike trees k f e (call.OpenRoot base) a = root_told trees k (called trees f (call.OpenRoot base)) (called trees e (call.OpenRoot base)) (called_both trees f e (call.OpenRoot base) a)
 updated_alike trees k f e (call.AddDir up p from) a = dir_told trees k p (called trees f (call.AddDir up p from)) (called trees e (call.AddDir up p from)) (called_both trees f e (call.AddDir up p from) a)
 updated_alike trees k f e (call.OpenDir up p base) a = dir_told trees k p (called trees f (call.OpenDir up p base)) (called trees e (call.OpenDir up p base)) (called_both trees f e (call.OpenDir up p base) a)
 updated_alike trees k f e (call.DeleteEntry up p base) a = called_both trees f e (call.DeleteEntry up p base) a

@@ -28,7 +28,7 @@ use Rattle.ra_edit.specs.declared.wire.WireEditor.{WireEditor}
 use Rattle.ra_update.specs.declared.facts.Facts.{Facts}
 use Rattle.std.specs.Prelude.{codes}
 use Rattle.std.specs.Fmt.{decimal}
-use Rattle.ra_update.specs.Entries.{revision_prop, given, entry_props, entry_calls, updated, all_updated}
+use Rattle.ra_update.specs.Entries.{revision_prop, given, entry_props, entry_calls, root_calls, updated, all_updated}
 
 all_joined : (k : Facts) (xs ys : List Call) → all_updated k (xs ++ ys) ≡ all_updated k xs ++ all_updated k ys
 all_joined k [] ys = refl
@@ -91,6 +91,12 @@ file_entries_stay k p os = elim (finite.get k.target.now p) as (λ o. run (Withi
   | Some x ↦ file_stays p os (entry_props k x)
 ]
 
+root_entries_stay : (k : Facts) (os : List Opened) → run (Within (OpenDir [] ∷ os)) (root_calls k) ≡ Some (Within (OpenDir [] ∷ os))
+root_entries_stay k os = elim k.tells_root as (λ b. run (Within (OpenDir [] ∷ os)) (cond b (entry_calls k call.DirProp []) []) ≡ Some (Within (OpenDir [] ∷ os))) [
+  | true ↦ dir_entries_stay k [] os
+  | false ↦ refl
+]
+
 -- a call that may come
 plain : (s u : Stage) (c : Call) → next s c ≡ Some u → run s (c ∷ []) ≡ Some u
 plain s u c e = ap (option_and_then (λ t. run t [])) e
@@ -112,7 +118,7 @@ next_updated : (k : Facts) (s u : Stage) (c : Call) → next s c ≡ Some u → 
 next_updated k Before u (call.Target n) e = plain Before u (call.Target k.number) e
 next_updated k (Within os) u (call.Target n) e = plain (Within os) u (call.Target k.number) e
 next_updated k After u (call.Target n) e = cc
-next_updated k Before u (call.OpenRoot base) e = opens Before u (call.OpenRoot k.base) (OpenDir []) (entry_calls k call.DirProp []) e (dir_entries_stay k []) ([], some_is e)
+next_updated k Before u (call.OpenRoot base) e = opens Before u (call.OpenRoot k.base) (OpenDir []) (root_calls k) e (root_entries_stay k) ([], some_is e)
   where
     some_is : {X : Type 0} {a b : X} → Some a ≡ Some b → b ≡ a
     some_is e = cc
@@ -175,7 +181,10 @@ with_entries c es h k = ap (λ b. b && list_all is_deeper es) h ∙ k
 
 one_deeper : (k : Facts) (c : Call) → is_deeper c ≡ true → AllDeeper (updated k c)
 one_deeper k (call.Target n) h = refl
-one_deeper k (call.OpenRoot base) h = entries_deeper k call.DirProp (λ p n v. refl) []
+one_deeper k (call.OpenRoot base) h = elim k.tells_root as (λ b. AllDeeper (cond b (entry_calls k call.DirProp []) [])) [
+  | true ↦ entries_deeper k call.DirProp (λ p n v. refl) []
+  | false ↦ refl
+]
 one_deeper k (call.AddDir up p from) h = with_entries (call.AddDir up p from) (entry_calls k call.DirProp p) h (entries_deeper k call.DirProp (λ p n v. refl) p)
 one_deeper k (call.OpenDir up p base) h = with_entries (call.OpenDir up p k.base) (entry_calls k call.DirProp p) h (entries_deeper k call.DirProp (λ p n v. refl) p)
 one_deeper k (call.DeleteEntry up p base) h = refl
@@ -223,6 +232,13 @@ none_told contents e k prop p is calls s =
 -- what is told of a node is told of what is there
 pub node_told : {T X F : Type 0} (contents : T → Option (List ℕ)) (old new : WireEditor T) (k : Facts) (prop : Path → Name → Option (List ℕ) → Call) (p q : Path) (x : Node) (r : Result X F) → q ≡ p → finite.get k.target.now p ≡ Some x → OnOk r (Adds (Shows contents) old new (given (prop q) (entry_props k x))) → OnOk r (Adds (Shows contents) old new (entry_calls k prop p))
 node_told contents old new k prop p q x r e is h = subst (λ o. OnOk r (Adds (Shows contents) old new (option_map_or (λ x. given (prop p) (entry_props k x)) o []))) (sym is) (subst (λ z. OnOk r (Adds (Shows contents) old new (given (prop z) (entry_props k x)))) e h)
+
+-- what is told of the root
+pub root_told : {T X F : Type 0} (contents : T → Option (List ℕ)) (old new : WireEditor T) (k : Facts) (p : Path) (r : Result X F) → k.tells_root ≡ true → p ≡ [] → OnOk r (Adds (Shows contents) old new (entry_calls k call.DirProp p)) → OnOk r (Adds (Shows contents) old new (root_calls k))
+root_told contents old new k p r t e h = subst (λ b. OnOk r (Adds (Shows contents) old new (cond b (entry_calls k call.DirProp []) []))) (sym t) (subst (λ q. OnOk r (Adds (Shows contents) old new (entry_calls k call.DirProp q))) e h)
+
+pub root_untold : {T : Type 0} (contents : T → Option (List ℕ)) (e : WireEditor T) (k : Facts) → k.tells_root ≡ false → Adds (Shows contents) e e (root_calls k)
+root_untold contents e k t calls s = subst (λ b. Shows contents e (calls ++ cond b (entry_calls k call.DirProp []) [])) (sym t) (subst (Shows contents e) (sym (append-nil calls)) s)
 
 -- four calls, one after the other
 pub four_told : {T X F : Type 0} (shows : T → List Call → Type 0) (one two three four five : T) (a b c d : Call) (all : List Call) (r : Result X F) → all ≡ a ∷ b ∷ c ∷ d ∷ [] → Adds shows one two (a ∷ []) → Adds shows two three (b ∷ []) → Adds shows three four (c ∷ []) → OnOk r (Adds shows four five (d ∷ [])) → OnOk r (Adds shows one five all)

@@ -1,6 +1,6 @@
 -- The calls of an edit beside those of a drive: what a client wants to know of each node that is opened or added, and by
 -- which revisions things are known.
-use Rattle.std.specs.Prelude.{ℕ, List, [], ◌∷◌, ◌++◌, Option, Some, codes}
+use Rattle.std.specs.Prelude.{ℕ, List, [], ◌∷◌, ◌++◌, Option, Some, codes, if◌then◌else◌}
 use Rattle.std.specs.Option.{option_map_or, option_and_then}
 use Rattle.std.specs.List.{slice_get}
 use Rattle.std.specs.Fmt.{decimal}
@@ -32,10 +32,14 @@ given prop (e ∷ es) = prop e.0 e.1 ∷ given prop es
 abbrev pub entry_calls : Facts → (Path → Name → Option (List ℕ) → Call) → Path → List Call
 entry_calls k prop p = option_map_or (λ x. given (prop p) (entry_props k x)) (finite.get k.target.now p) []
 
+-- of the root only where that is wanted
+abbrev pub root_calls : Facts → List Call
+root_calls k = if k.tells_root then entry_calls k call.DirProp [] else []
+
 -- a call of a drive, with the edit's revisions in the place of the drive's, and what is told behind it
 abbrev pub updated : Facts → Call → List Call
 updated k (call.Target n) = call.Target k.number ∷ []
-updated k (call.OpenRoot base) = call.OpenRoot k.base ∷ entry_calls k call.DirProp []
+updated k (call.OpenRoot base) = call.OpenRoot k.base ∷ root_calls k
 updated k (call.AddDir up p from) = call.AddDir up p from ∷ entry_calls k call.DirProp p
 updated k (call.OpenDir up p base) = call.OpenDir up p k.base ∷ entry_calls k call.DirProp p
 updated k (call.DeleteEntry up p base) = call.DeleteEntry up p k.base ∷ []

@@ -8,7 +8,7 @@ ghost use Rattle.delta_editor.specs.Calls.{Adds};
 ghost use Rattle.delta_editor.specs.declared.call.Call.TheVariants as call;
 ghost use Rattle.delta_editor.specs.declared.fault.EditorFault.TheVariants.{OutOfMemory, PeerFailed};
 ghost use Rattle.ra_edit.specs.Wire.{Shows, held_before};
-ghost use Rattle.ra_update.specs.Entries.{entry_calls, entry_props, given, revision_prop};
+ghost use Rattle.ra_update.specs.Entries.{entry_calls, entry_props, given, revision_prop, root_calls};
 ghost use Rattle.ra_update.specs.Updated.{Begun, ShowsUpdated, Stopped, begun, begun_with, done_begun_with};
 ghost use Rattle.ra_update.specs.Updated.{path_of_dir, path_of_file, written_by};
 
@@ -160,6 +160,27 @@ fn entered<W: Write + Drop>(
     }
 }
 
+// The root that was opened, with what is told of it.
+fn root_entered<W: Write + Drop>(
+    editor: &mut WireEditor<W>,
+    names: &EntryNames,
+    facts: &Facts<'_>,
+    dir: WireDir,
+    root: &NodePath,
+) -> Result<WireDir, EditorFault>
+    requires is { path_of_dir dir ≡ root.now }
+    requires root { root.now ≡ [] }
+    ensures shown { OnOk result (Adds (Shows W.contents) editor.old editor.new (root_calls facts.now)) }
+    ensures refused { IfErr result (Stopped W.contents editor.old) }
+    ensures baton { IfOk result (λ d. path_of_dir d ≡ root.now) }
+    ensures began { held_before W.contents editor.new ≡ held_before W.contents editor.old }
+{
+    if !facts.tells_root {
+        return Ok(dir);
+    }
+    entered(editor, names, facts, dir, root)
+}
+
 // A file that was opened, with what is told of it.
 fn started<W: Write + Drop>(
     editor: &mut WireEditor<W>,
@@ -218,7 +239,7 @@ impl<'a, W: Write + Drop> Editor for UpdateEditor<'a, W> {
     fn open_root(&mut self, _base: Option<RevNo>) -> Result<WireDir, EditorFault> {
         let root = NodePath::root(self.alloc);
         let dir = self.inner.open_root(self.facts.base)?;
-        entered(&mut self.inner, &self.names, self.facts, dir, &root)
+        root_entered(&mut self.inner, &self.names, self.facts, dir, &root)
     }
 
     fn add_dir(

@@ -16,4 +16,7 @@ pub struct Facts<'a> {
     pub identity: &'a [u8],
     /// The properties of the repository's revisions, from revision 0 on.
     pub revisions: &'a [Props],
+    /// Whether what is told of a node beside its own properties is told of the root too. Subversion's client takes none of
+    /// it there where it named an entry of the root.
+    pub tells_root: bool,
 }

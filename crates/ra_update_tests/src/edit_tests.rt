@@ -116,6 +116,7 @@ fn is_edit(rt: &impl Abort, alloc: Global, from: u16, base: u16, to: u16, expect
         base: Some(RevNo::new(base)),
         identity: b"6a1f0c3e-0000-4000-8000-0000000000a1",
         revisions: revisions.as_slice(),
+        tells_root: true,
     };
     let out = send_update(alloc, &reported, &facts, Vec::new(alloc)).expect(rt, "memory");
     out.as_slice() == expected
@@ -160,6 +161,7 @@ fn is_edit_to(
         base: Some(RevNo::new(base)),
         identity: b"6a1f0c3e-0000-4000-8000-0000000000a1",
         revisions: revisions.as_slice(),
+        tells_root: true,
     };
     let out = send_update(alloc, reported, &facts, Vec::new(alloc)).expect(rt, "memory");
     out.as_slice() == expected
@@ -186,4 +188,25 @@ fn a_switch_and_a_checkout_of_files(rt: HostRuntime) {
     assert!(rt; is_edit_to(&rt, alloc, &tags, 1, &trunk, b"", SWITCH));
     let empty = Tree::empty(alloc).expect(&rt, "memory");
     assert!(rt; is_edit_to(&rt, alloc, &empty, 3, &trunk, b"new", FILES));
+}
+
+// What svnserve sends of a target that is as it was reported.
+const UNTOLD: &[u8] =
+    b"( target-rev ( 3 ) ) ( open-root ( ( 3 ) 2:t0 ) ) ( close-dir ( 2:t0 ) ) ( close-edit ( ) ) ";
+
+#[test]
+fn nothing_is_told_of_the_root_of_a_target(rt: HostRuntime) {
+    let alloc = rt.alloc();
+    let tree = tree_at(&rt, alloc, 3);
+    let revisions = revisions(&rt, alloc);
+    let facts = Facts {
+        target: &tree,
+        number: RevNo::new(3),
+        base: Some(RevNo::new(3)),
+        identity: b"6a1f0c3e-0000-4000-8000-0000000000a1",
+        revisions: revisions.as_slice(),
+        tells_root: false,
+    };
+    let out = send_update(alloc, &tree, &facts, Vec::new(alloc)).expect(&rt, "memory");
+    assert!(rt; out.as_slice() == UNTOLD);
 }

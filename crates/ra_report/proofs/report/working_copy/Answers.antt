@@ -1,10 +1,14 @@
-use Rattle.std.proofs.Common.{◌∙◌, ap, map}
+use Rattle.std.proofs.Common.{◌∙◌, sym, map}
+use Rattle.tree_reports.specs.Reports.{content_at}
 use Rattle.browse_wire.specs.Reports.{report_as}
 use Rattle.ra_browse.specs.Tellings.{place_as}
-use Rattle.ra_report.proofs.Later.{reported_comes}
+use Rattle.ra_report.proofs.Targets.{whole_comes, part_comes}
 use Rattle.ra_report.proofs.report.working_copy.Goals as goal
 
-pub returns-in-Ok-clause-found : goal.returns-in-Ok-clause-found
-returns-in-Ok-clause-found g c = λ x e.
-    let f = c.in-Ok.ensures.found x e in
-    reported_comes x (place_as c.args.place.now) (report_as c.in-Some.first.now) (map report_as c.in-Some.rest.now) (map report_as c.args.report.now) _ _ _ c.in-Ok.copy c.go_on.result (ap (map report_as) c.in-Some.ensures.cases.0) c.begun.ensures.stays.goes.later f.0 f.1 (c.go_on.ensures.found x (c.begun.ensures.stays.repository ∙ e))
+pub returns-then-is_root-clause-found : goal.returns-then-is_root-clause-found
+returns-then-is_root-clause-found g c = λ x e.
+    whole_comes x (place_as c.args.place.now) c.args.target.now (content_at c.args.wanted.now) (map report_as c.args.report.now) _ _ c.whole.result (sym c.is_root.ensures ∙ c.if-is_root.true) (c.whole.ensures.found x e)
+
+pub returns-clause-found : goal.returns-clause-found
+returns-clause-found g c = λ x e.
+    part_comes x (place_as c.args.place.now) c.args.target.now (content_at c.args.wanted.now) (map report_as c.args.report.now) _ _ c.part.result (sym c.is_root.ensures ∙ c.if-is_root.false) (c.part.ensures.found x e)

@@ -1,0 +1,16 @@
+use Rattle.std.proofs.Common.{◌∙◌, ap, map}
+use Rattle.tree_reports.specs.Reports.{content_at}
+use Rattle.browse_wire.specs.Reports.{report_as}
+use Rattle.ra_browse.specs.Tellings.{place_as}
+use Rattle.ra_report.specs.Reports.{aimed, aims_denied, later_denied}
+use Rattle.ra_report.proofs.Calls.{denied_first}
+use Rattle.ra_report.proofs.Targets.{part_aimed}
+use Rattle.ra_report.proofs.part.part_from.Goals as goal
+
+pub returns-in-Ok-clause-found : goal.returns-in-Ok-clause-found
+returns-in-Ok-clause-found g c = λ x e.
+    part_aimed x (place_as c.args.place.now) c.args.target.now (content_at c.args.wanted.now) (map report_as c.as_slice.result.now) (map report_as c.args.report.now) _ _ _ c.over.result c.in-Ok.ensures.0 (ap (map report_as) c.as_slice.ensures.value ∙ c.in-Ok.ensures.1) (c.over.ensures.found x e)
+
+pub returns-in-Err-clause-found : goal.returns-in-Err-clause-found
+returns-in-Err-clause-found g c = λ x e.
+    denied_first _ _ (aims_denied c.args.target.now (map report_as c.args.report.now)) (later_denied x (place_as c.args.place.now) (content_at c.args.wanted.now) (map (aimed c.args.target.now) (map report_as c.args.report.now))) c.in-Err.stop c.in-Err.ensures
