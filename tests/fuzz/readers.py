@@ -10,11 +10,13 @@ ROOTS = [b'svn://127.0.0.1:3690', b'svn://h', b'svn://H.example:1', b'svn://u@h'
 BAD_URLS = [b'', b'svn:', b'svn://', b'svn:///', b'svn:///a', b'SVN://h/a', b'svn+ssh://h/a', b'http://h/a', b'file:///a', b'/a', b'a', b'svn://h//', b'svn://h/.']
 # Each as often as it is asked for; those behind them seldom.
 COMMANDS = [b'get-latest-rev', b'rev-proplist', b'rev-prop', b'get-lock', b'get-locks']
-COMMANDS += 2 * [b'check-path'] + 4 * [b'stat', b'get-file', b'get-dir', b'get-locations'] + 2 * [b'reparent']
-DENIED = [b'log', b'get-location-segments', b'get-file-revs', b'update', b'switch', b'status', b'diff',
-          b'change-rev-prop', b'change-rev-prop2', b'replay', b'replay-range']
+COMMANDS += 2 * [b'check-path'] + 4 * [b'stat', b'get-file', b'get-dir', b'get-locations', b'log'] + 2 * [b'reparent']
+ORDERS = [b'update', b'switch', b'status', b'diff']
+DENIED = [b'get-location-segments', b'get-file-revs', b'change-rev-prop', b'change-rev-prop2', b'replay', b'replay-range']
 UNKNOWN = [b'commit', b'list', b'get-mergeinfo', b'get-iprops', b'lock', b'unlock', b'lock-many', b'get-deleted-rev', b'set-path', b'x']
 DEPTHS = [Word(it) for it in (b'empty', b'files', b'immediates', b'infinity', b'unknown', b'exclude')]
+FINISH = [Word(b'finish-report'), []]
+WHOLE = [Word(b'infinity'), Word(b'unknown')]
 FIELDS = [Word(it) for it in (b'kind', b'size', b'has-props', b'created-rev', b'time', b'last-author', b'word')]
 HOSTILE = [b'18446744073709551616 ', b'-1 ', b'( ) ', b'( ' * 16 + b') ' * 16, b'( ' * 17 + b') ' * 17, b'1048577:', b'99999999999999999999:a ', b'w' * 65 + b' ',
            b'4:abc', b'3:abcd ', b'()', b'\xff ', b'( stat ( 0: ( ', b'( stat ( 1048577:', b') ', b'( stat ( 2:\xff\xfe ( ) ) ) ', b'( stat ( 2:.. ( ) ) ) ',
@@ -24,6 +26,9 @@ HOSTILE = [b'18446744073709551616 ', b'-1 ', b'( ) ', b'( ' * 16 + b') ' * 16, b
 
 class Reader(Asker):
     """A reading client that knows what is there, mostly, and where its session stands."""
+
+    # How often something is said to be at another URL.
+    LINKED = 0.05
 
     def __init__(self, random, server):
         super().__init__(random, server)
@@ -129,15 +134,96 @@ class Reader(Asker):
             return [self.path(), *self.ranged(3)]
         if name == b'get-file-revs':
             return self.cut([self.path(), *self.ranged(), self.flag()], 1)
-        if name == b'update':
-            return self.cut([self.maybe(self.number()), self.path(), self.flag(), self.depth(), self.flag(), self.flag()], 3)
-        if name == b'switch':
-            return self.cut([self.maybe(self.number()), self.path(), self.flag(), self.moved(), self.depth(), self.flag(), self.flag()], 3)
-        if name == b'status':
-            return self.cut([self.path(), self.flag(), self.maybe(self.number()), self.depth()], 2)
-        if name == b'diff':
-            return self.cut([self.maybe(self.number()), self.path(), self.flag(), self.flag(), self.moved(), self.flag(), self.depth()], 2)
         return super().params(name)
+
+    # ---- reports
+
+    def folders(self):
+        """The revisions in which a folder is where the session stands."""
+        return [number for number, tree in enumerate(self.server.trees) if tree.get(self.place, {}).get('kind') == b'dir']
+
+    def near(self):
+        """The names of what stands right below the session's place in some revision."""
+        return [it[0] for it in self.there(self.random.randrange(len(self.server.trees))) if it] or [b'a']
+
+    def any_of(self, numbers):
+        """One of these, mostly."""
+        return self.random.choice(numbers) if numbers and self.random.random() < 0.95 else self.number()
+
+    def order(self):
+        """A command that a report follows, mostly one that is answered."""
+        random, name = self.random, self.random.choice(ORDERS)
+        number, recurse = self.maybe(self.any_of(self.folders())), random.random() < 0.9
+        target = self.path() if random.random() < 0.04 else random.choice(self.near()) if random.random() < 0.3 else b''
+        depth = self.depth() if random.random() < 0.05 else random.choice(WHOLE)
+        count = 3 if random.random() < 0.1 else 0
+        if name == b'update':
+            params = self.cut([number, target, recurse, depth, self.flag(), self.flag()], count)
+        elif name == b'switch':
+            params = self.cut([number, target, recurse, self.moved(), depth, self.flag(), self.flag()], count)
+        elif name == b'status':
+            params = self.cut([target, recurse, number, depth], min(count, 2))
+        else:
+            params = self.cut([number, target, recurse, self.flag(), self.moved(), self.flag(), depth], min(count, 2))
+        return [Word(name), params]
+
+    def state(self, number, is_empty):
+        """A revision of which something is reported, and how."""
+        token = [b'opaquelocktoken:x'] if self.random.random() < 0.05 else []
+        depth = self.depth() if self.random.random() < 0.02 else WHOLE[0]
+        return self.cut([number, is_empty, token, depth], 2 if self.random.random() < 0.05 else 0)
+
+    def reported_path(self, path, numbers):
+        """Something that is said of a path of these revisions."""
+        random, way, slashed = self.random, self.random.random(), self.slashed(path)
+        if way < 0.15:
+            return [Word(b'delete-path'), [slashed]]
+        number, place, url = self.any_of(numbers), self.place + path, []
+        if way < 0.15 + self.LINKED:
+            place = self.absolute()
+            url = [self.spelled_url(place) if random.random() < 0.9 else self.moved()]
+        is_empty = random.random() < 0.2 and self.may_be_empty(place, number)
+        return [Word(b'link-path' if url else b'set-path'), [slashed, *url, *self.state(number, is_empty)]]
+
+    def may_be_empty(self, _place, _number):
+        return True
+
+    def reported_paths(self, number):
+        """What is said of some paths of a folder of a revision, which is known already."""
+        there = [it for it in self.there(number) if it] or [(b'a',)]
+        for path in [self.random.choice(there) for _ in range(self.random.choice([0, 0, 1, 2, 4]))]:
+            if self.random.random() < 0.05:
+                path += (self.name_near(),)
+            numbers = [at for at, tree in enumerate(self.server.trees) if self.place + path in tree]
+            yield self.reported_path(path, numbers)
+
+    def report(self):
+        """A command, the report that follows, and what the client says of the edit that it is sent."""
+        random, said = self.random, [self.order()]
+        number = self.any_of(self.folders())
+        if random.random() < 0.97:
+            said.append([Word(b'set-path'), [b'', *self.state(number, random.random() < 0.3)]])
+        said += self.reported_paths(min(number, len(self.server.trees) - 1))
+        if random.random() < 0.1:
+            said.insert(random.randrange(len(said) + 1), self.bent(random.choice([*said, [Word(b'stat'), [b'', []]]])[:]))
+        said.append([Word(b'finish-report' if random.random() < 0.95 else b'abort-report'), []])
+        if self.server.edit_behind(said, self.root, self.place) or random.random() < 0.02:
+            said.append(self.verdict())
+        return said
+
+    def verdict(self):
+        random = self.random
+        if random.random() < 0.85:
+            return [Word(b'success'), []]
+        first = [random.choice([155011, 0, 2 ** 64 - 1]), random.choice([b'out of date', b'', b'\xff', b'x' * 300]), b'file.c', 7]
+        item = [Word(b'failure'), [first, *([[1, b'y', b'', 0]] if self.flag() else [])]]
+        return self.bent(item) if self.flag() else item
+
+    # ---- all of it
+
+    def commands(self):
+        """A command, or one with its report."""
+        return self.report() if self.random.random() < 0.2 else [self.command()]
 
     def command(self):
         random = self.random
@@ -163,7 +249,7 @@ class Reader(Asker):
         opening = [hello, login]
         if random.random() < 0.05:
             opening[random.randrange(2)] = random.choice([[1, caps, url], [Word(b'CRAM-MD5'), []], 7, [], [2, [b'x'], url], [2, caps]])
-        return opening + [self.command() for _ in range(random.choice([0, 3, 6, 12, 24]))]
+        return opening + [it for _ in range(random.choice([0, 3, 6, 12, 24])) for it in self.commands()]
 
     def spelled(self):
         """The bytes of a session; in some stands what no client would send."""
@@ -177,7 +263,7 @@ class Reader(Asker):
 class WellBehaved(Reader):
     """A reading client that asks as Subversion's own do, and nothing that svnserve answers by other rules than reads.py."""
 
-    LOCATED = [b'get-locations', b'get-location-segments']
+    LOCATED, LINKED = [b'get-locations', b'get-location-segments'], 0.15
 
     def __init__(self, random, server):
         super().__init__(random, server)
@@ -188,8 +274,7 @@ class WellBehaved(Reader):
         return self.random.choice([*range(head + 1)] * 4 + [head + 1, 65535])
 
     def moved(self):
-        path = self.random.choice([self.folder, self.absolute])()
-        return self.root + (b'/' + quote_from_bytes(b'/'.join(path)).encode() if path else b'')
+        return self.spelled_url(self.random.choice([self.folder, self.absolute])())
 
     def name_near(self):
         return self.random.choice(NAMES)
@@ -226,6 +311,67 @@ class WellBehaved(Reader):
         ends = sorted([random.randrange(peg + 2), random.randrange(peg + 1)], reverse=random.random() < 0.9)
         return [Word(name), [self.slashed(path), [peg], *([it] for it in ends)]]
 
+    # ---- reports
+
+    def order(self):
+        """A command that a report follows of a folder, or of something in one."""
+        random, name = self.random, self.random.choice(ORDERS)
+        head, folders = len(self.server.trees) - 1, self.folders()
+        number, target = random.choice(folders), b''
+        if random.random() < 0.3:
+            number = random.randrange(head + 1)
+            target = random.choice(self.near())
+        at = [] if number == head and self.flag() else [number]
+        depth, goal = random.choice(WHOLE), random.choice(self.goals(number, not target))
+        url = self.spelled_url(goal)
+        return [Word(name), {b'update': [at, target, True, depth, False, self.flag()], b'switch': [at, target, True, url, depth, False, self.flag()],
+                             b'status': [target, True, at, depth], b'diff': [at, target, True, self.flag(), url, self.flag(), depth]}[name]]
+
+    def goals(self, number, is_folder):
+        """The paths of a revision, of folders alone where they are wanted."""
+        tree = self.server.trees[number]
+        return [it for it in tree if not is_folder or tree[it]['kind'] == b'dir']
+
+    def state(self, number, is_empty):
+        return [number, is_empty, [], WHOLE[0]]
+
+    def may_be_empty(self, place, number):
+        """(svnserve takes an empty folder alone)"""
+        return number < len(self.server.trees) and self.server.trees[number].get(place, {}).get('kind') == b'dir'
+
+    def spelled_url(self, path):
+        return self.root + (b'/' + quote_from_bytes(b'/'.join(path)).encode() if path else b'')
+
+    def report(self):
+        """A report of what may be: folders before what is in them, each of a revision in which it is there."""
+        random, order = self.random, self.order()
+        target = order[1][0 if order[0] == b'status' else 1]
+        front, number = (target,) if target else (), random.choice(self.folders())
+        said = [order, [Word(b'set-path'), [b'', *self.state(number, not target and random.random() < 0.2)]]]
+        paths = sorted({it for tree in self.server.trees for it in tree if it[:len(self.place + front)] == self.place + front})
+        for path in random.sample(paths, min(len(paths), random.choice([0, 0, 1, 2, 4]))):
+            said.append((path, [at for at, tree in enumerate(self.server.trees) if path in tree]))
+        return self.that_hold(said[:2], sorted(said[2:]), len(self.place + front)) + [[Word(b'success'), []]]
+
+    def that_hold(self, said, paths, front):
+        """Of what might be reported of these paths what is no fault behind the rest, and the end."""
+        for path, numbers in paths:
+            more = [*said, self.reported_path(path[front:], numbers)]
+            before, behind = (self.server.edit_behind([*it, FINISH], self.root, self.place) for it in (said, more))
+            if path[front:] and behind and self.is_taken(path[len(self.place):], more[-1][0], before, behind):
+                said = more
+        return [*said, FINISH]
+
+    def is_taken(self, path, name, before, behind):
+        """(svnserve takes a deletion of what is there alone, and nothing in what becomes a file)"""
+        is_file = any(behind.goal.get(path[:n], {}).get('kind') == b'file' for n in range(len(path)))
+        return not is_file and (name != b'delete-path' or len(behind.trees[0]) < len(before.trees[0]))
+
+    # ---- all of it
+
+    def commands(self):
+        return self.report() if self.folders() and self.random.random() < 0.3 else [self.command()]
+
     def command(self):
         name = self.random.choice(COMMANDS + 3 * [b'log', *self.LOCATED])
         if name in self.LOCATED:
@@ -238,4 +384,4 @@ class WellBehaved(Reader):
     def session(self):
         url = self.moved()
         self.place = self.server.place_behind([Word(b'reparent'), [url]], self.root, ())
-        return [[2, [Word(b'edit-pipeline'), Word(b'log-revprops')], url], ANONYMOUS, *(self.command() for _ in range(12))]
+        return [[2, [Word(b'edit-pipeline'), Word(b'log-revprops')], url], ANONYMOUS, *(it for _ in range(12) for it in self.commands())]

@@ -12,6 +12,7 @@ for these things. The program's own rules stand for them:
   - a command of another form is denied (210004), and the session goes on, where svnserve ends it;
   - a URL is taken as it is spelled: its scheme and host keep their case, and a second slash or a `.` is no path;
   - a revision of 2^64 - 1 is above the head, where svnserve takes it for none;
+  - a change that gives no properties where none were is told as one that gives properties, where svnserve's has none;
   - `get-locations` tells each number as often as it is asked for, and a later one where the node stood on at its path, where
     svnserve tells a number once, and takes a node that was brought back from before the peg for the same.
 """
@@ -27,18 +28,22 @@ from trials import TEXTS as REFUSALS
 GREETING = b'( success ( 2 2 ( ) ( edit-pipeline ) ) ) '
 # The numbers of Subversion by which a client decides, and what the program says with each.
 TEXTS = {160006: 'no such revision', 160013: 'path not found', 160016: 'not a directory', 160017: 'not a file',
-         200007: 'not supported', 210001: 'unknown command', 210004: 'bad command shape'}
+         165004: 'bad revision report', 200007: 'not supported', 210001: 'unknown command', 210004: 'bad command shape'}
 NO_URL, OTHER = (170000, 'not a URL of a session'), (170000, 'not the same repository')
 NOWHEN = b'1970-01-01T00:00:00.000000Z'
 DEPTHS = [b'empty', b'files', b'immediates', b'infinity', b'unknown']
 
-# The commands that are answered, and those that are denied (200007) where they have their form.
+# Whether the program answers logs, and reports of working copies.
+HAS_LOGS, HAS_REPORTS = True, True
+LATER = {'log': HAS_LOGS} | dict.fromkeys(['update', 'switch', 'status', 'diff'], HAS_REPORTS)
+# The commands that are answered, and those that are denied where they have their form, with the number. (A client that hears
+# that a command is unknown asks for the same by `log`.)
 ANSWERED = {'get-latest-rev', 'check-path', 'get-file', 'get-dir', 'rev-proplist', 'rev-prop', 'stat', 'reparent', 'get-lock', 'get-locks',
-            'get-locations'}
-DENIED = {'change-rev-prop', 'change-rev-prop2', 'replay', 'replay-range', 'log', 'get-location-segments', 'get-file-revs',
-          'update', 'switch', 'status', 'diff'}
-# Those of the latter that are answered here as svnserve does: their names go above once the program answers them.
-READY = {'log', 'get-location-segments'}
+            'get-locations'} | {name for name, is_answered in LATER.items() if is_answered}
+DENIED = dict.fromkeys(['change-rev-prop', 'change-rev-prop2', 'replay', 'replay-range', *LATER], 200007)
+DENIED |= dict.fromkeys(['get-location-segments', 'get-file-revs'], 210001 if HAS_LOGS else 200007)
+# Those of the latter that are answered here as svnserve does.
+READY = {'get-location-segments'}
 # Whether places of nodes are told as svnserve tells them.
 AS_SVNSERVE = False
 
@@ -180,14 +185,14 @@ class Reads(Server):
         if not (is_a(item, list) and len(item) > 1 and is_a(item[0], Word) and is_a(item[1], list)):
             raise Denied(210004)
         name = item[0].decode()
-        if name not in ANSWERED | DENIED:
+        if name not in ANSWERED and name not in DENIED:
             raise Denied(210001)
         try:
             found = getattr(self, 'at_' + name.replace('-', '_'))(Asked(item[1]))
         except Refused:
             raise Denied(210004) from None
         if name not in ANSWERED:
-            raise Denied(200007)
+            raise Denied(DENIED[name])
         return found
 
     def place_behind(self, item, root, place):
@@ -313,22 +318,6 @@ class Reads(Server):
     def at_get_file_revs(self, params):
         return [params.path(), params.maybe(int), params.maybe(int), params.perhaps(params.bool, False)]
 
-    def at_update(self, params):
-        return [params.maybe(int), params.path(), params.bool(), params.perhaps(params.depth, b''), *self.flags(params)]
-
-    def at_switch(self, params):
-        return [params.maybe(int), params.path(), params.bool(), params.next(bytes), params.perhaps(params.depth, b''), *self.flags(params)]
-
-    def flags(self, params):
-        return [params.perhaps(params.bool, False) for _ in range(2)]
-
-    def at_status(self, params):
-        return [params.path(), params.bool(), params.perhaps(lambda: params.maybe(int), None), params.perhaps(params.depth, b'')]
-
-    def at_diff(self, params):
-        front = [params.maybe(int), params.path(), params.bool(), params.bool(), params.next(bytes)]
-        return front + [params.perhaps(params.bool, True), params.perhaps(params.depth, b'')]
-
     # ---- histories
 
     def moments(self, path, number, is_strict=False):
@@ -400,8 +389,11 @@ class Reads(Server):
         return self.trees[over[-1].source[1]][over[-1].source[0] + path[len(over[-1].path):]]
 
     def has_set_props(self, number, change):
+        """Whether a change gives properties; by svnserve one that leaves none where none were gives none."""
         if change.props is None or change.action == b'delete':
             return False
+        if not AS_SVNSERVE:
+            return bool(change.props) or not change.is_plain()
         old = {}
         if change.source:
             old = self.trees[change.source[1]][change.source[0]]['props']

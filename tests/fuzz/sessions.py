@@ -192,14 +192,25 @@ def plain_chunks(text):
 class Edit:
     """The commands that show a revision's changes over the trees before it."""
 
-    def __init__(self, trees, changes, chunks=plain_chunks):
-        self.trees, self.base, self.given, self.chunks = trees, [len(trees) - 1] if trees else [], 0, chunks
-        self.open, self.said = [], [command(b'target-rev', len(trees))]
+    LAST = b'finish-replay'
+
+    def __init__(self, trees, changes, chunks=plain_chunks, number=None, base=None):
+        self.trees, self.given, self.chunks = trees, 0, chunks
+        self.base = [base] if base is not None else [len(trees) - 1] if trees else []
+        self.open, self.said = [], [command(b'target-rev', len(trees) if number is None else number)]
         self.enter((), b'open-root', self.base)
         for at, change in enumerate(changes):
             self.show(change, changes[:at])
         self.leave_to(None)
-        self.said.append(command(b'finish-replay'))
+        self.said.append(command(self.LAST))
+
+    def beside(self, _path, _token, _name):
+        """What is told of what is opened or added, beside what changes."""
+        return []
+
+    def props_at(self, path, done):
+        """The properties of what is opened, behind the changes that are done."""
+        return applied(self.trees, done)[path]['props']
 
     def token(self):
         self.given += 1
@@ -210,6 +221,7 @@ class Edit:
         token = self.token()
         front = [b'/'.join(path), self.open[-1][1], token, *params] if path else [*params, token]
         self.said.append(command(name, *front))
+        self.said += self.beside(path, token, b'change-dir-prop')
         self.open.append((path, token))
 
     def leave_to(self, path):
@@ -236,7 +248,7 @@ class Edit:
         if change.source:
             old = self.trees[change.source[1]][change.source[0]]['props']
         elif not is_made:
-            old = applied(self.trees, done)[path]['props']
+            old = self.props_at(path, done)
         name = (b'add-' if is_made else b'open-') + kind
         if kind == b'dir':
             if path:
@@ -245,6 +257,7 @@ class Edit:
             return
         token = self.token()
         self.said.append(command(name, b'/'.join(path), self.open[-1][1], token, *params))
+        self.said += self.beside(path, token, b'change-file-prop')
         self.said += parts(change, old, token, self.chunks)
         sum = [hashlib.md5(change.text).hexdigest().encode()] if change.text is not None else []
         self.said.append(command(b'close-file', token, sum))

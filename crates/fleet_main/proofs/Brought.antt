@@ -1,28 +1,30 @@
 -- What `fleet` does over folders, step by step.
-use Rattle.std.proofs.Common.{◌≡◌, ◌≢◌, ◌≤◌, ◌<◌, ◌⊎◌, inl, inr, ℕ, ◌+◌, Bool, true, false, ◌||◌, List, [], ◌∷◌, ◌++◌, length, map, Option, Some, None, Result, Ok, Err, IfOk, IfErr, IfSome, Vec, is_some, is_ok, if◌then◌else◌, refl, sym, ap, subst, ◌∙◌, append_assoc, append-nil, length-append, arith}
+use Rattle.std.proofs.Common.{◌≡◌, ◌≢◌, ◌≤◌, ◌<◌, inl, inr, ℕ, suc, ◌+◌, Bool, true, false, ◌||◌, List, [], ◌∷◌, ◌++◌, length, map, Option, Some, None, Result, Ok, Err, IfOk, IfErr, IfSome, Vec, is_some, is_ok, if◌then◌else◌, refl, sym, ap, subst, ◌∙◌, append_assoc, append-nil, length-append, arith}
 use Rattle.std.specs.List.{list_all, list_any, AllZip}
 use Rattle.std.specs.Option.{option_map}
 use Rattle.std.specs.Str.{bytes_eq}
 use Rattle.std.specs.Io.KnownBytes.{Appends}
 use Rattle.std.specs.declared.alloc.Global.{Global}
 use Rattle.std.proofs.lemmas.Bool.{true≢false}
+use Rattle.std.proofs.lemmas.Bool.Decides.{nat_tests}
 use Rattle.std.proofs.lemmas.Slice.Eq.{bytes_eq-Decides}
 use Rattle.fleet_disk.specs.Rules.{Rose}
 use Rattle.fleet_disk.specs.declared.disk.Disk.{Ghosts}
 use Rattle.fleet_jobs.specs.Answers.{Answer}
+use Rattle.fleet_jobs.specs.declared.order.Order.{Order}
 use Rattle.node_base.specs.declared.refusal.Refusal.{Refusal}
 use Rattle.node_base.specs.declared.refusal.Refusal.TheVariants as refusal
 use Rattle.repo_core.specs.Repository.{head_of}
-use Rattle.repo_store.specs.Words.{disk_of, repository_of, revisions_of, IsKept as StoreIsKept}
+use Rattle.repo_store.specs.Words.{disk_of, revisions_of, IsKept as StoreIsKept}
 use Rattle.repo_store.specs.declared.store.RepoStore.{RepoStore}
-use Rattle.std.specs.Prelude.{slice_get}
-use Rattle.fleet_shares.specs.Agreed.{BringsUp}
-use Rattle.fleet_shares.specs.Closing.{AreBroughtUp, IsBroughtUp}
+use Rattle.std.specs.Prelude.{slice_get, nat_le}
+use Rattle.fleet_shares.specs.Closing.{ComesOutNow, IsJudged}
+use Rattle.fleet_shares.specs.Orders.{sync_order}
 use Rattle.fleet_shares.specs.Lines.{lines_of}
 use Rattle.fleet_shares.specs.Stores.{store_at}
-use Rattle.fleet_shares.specs.Told.{head_at, stand, stands, AreTold, SameSlots}
+use Rattle.fleet_shares.specs.Told.{head_at, stand, stands, AreTold, IsTold, SameSlots}
 use Rattle.fleet_shares.specs.declared.stores.FleetStores.{FleetStores}
-use Rattle.fleet_main.specs.Bringing.{Came, Refused, Stood, loan_of, loans_of, standing, HasCome, HaveCome, AreBrought, AreToldOf, AreUntold, AreUp, AreUpBefore, IsTelling, IsUp, OfFleet, NotBrought}
+use Rattle.fleet_main.specs.Bringing.{Came, Refused, Stood, loan_of, loans_of, standing, HasCome, HaveCome, AreBrought, AreToldOf, AreUntold, ComesAs, IsJudgedFrom, IsTelling, OfFleet, NotBrought}
 use Rattle.fleet_main.specs.Doing.{IsOpenedIn}
 use Rattle.fleet_main.specs.Lending.{IsGiven}
 use Rattle.fleet_main.specs.Loans.{AreBack, Each, Loan, TakesBack, lent_by, only_of}
@@ -76,44 +78,7 @@ module _ {D : Type 0} {G : Ghosts D} where
       let both = neither (bytes_eq name n) (list_any (bytes_eq name) ns) e in
       each_append (λ l. l.folder ≢ name) (loan_of n c) (loans_of ns cs) (loan_folder (λ f. f ≢ name) n c (another name n both.0)) (loans_apart name ns cs both.1)
 
--- of stores in their slots
-module _ {D : Type 0} {G : Ghosts D} where
-  stands_snoc : (k : ℕ) (rs : List (Option Refusal)) (r : Option Refusal) (stores : FleetStores D G) → stands k (rs ++ r ∷ []) stores ≡ stands k rs stores ++ stand r (head_at stores (k + length rs)) ∷ []
-  stands_snoc k [] r stores = ap (λ n. stand r (head_at stores n) ∷ []) (omega arith)
-  stands_snoc k (x ∷ rs) r stores =
-      ap (λ ss. stand x (head_at stores k) ∷ ss)
-      (stands_snoc (k + 1) rs r stores ∙ ap (λ n. stands (k + 1) rs stores ++ stand r (head_at stores n) ∷ []) (omega arith))
-
-  stands_same : (k : ℕ) (rs : List (Option Refusal)) (s t : FleetStores D G) → ((n : ℕ) → n < k + length rs → store_at s n ≡ store_at t n) → stands k rs s ≡ stands k rs t
-  stands_same k [] s t same = refl
-  stands_same k (r ∷ rs) s t same =
-      ap (λ o. stand r (option_map (λ x. head_of (revisions_of x)) o) ∷ stands (k + 1) rs s) (same k (omega arith))
-      ∙ ap (λ ss. stand r (head_at t k) ∷ ss) (stands_same (k + 1) rs s t (λ n less. same n (omega (arith, less))))
-
-  some_of : (o : Option (RepoStore D G)) → is_some o ≡ true → (s : RepoStore D G) × (o ≡ Some s)
-  some_of None e = absurd (true≢false (sym e))
-  some_of (Some s) e = (s, refl)
-
-told_by : {D E : Type 0} (G : Ghosts D) (r : Result (Vec Answer Global) E) (ss ts : List (Result ℕ Refusal)) → ss ≡ ts → IfOk r (λ told. AreTold G 0 ss told.items) → IfOk r (λ told. AreTold G 0 ts told.items)
-told_by G (Ok told) ss ts e h = subst (λ k. AreTold G 0 k told.items) e h
-told_by G (Err x) ss ts e h = tt
-
--- what holds of told answers, if others hold of them
-told_with : {E : Type 0} (r : Result (Vec Answer Global) E) (P Q : List Answer → Type 0) → ((as' : List Answer) → P as' → Q as') → IfOk r (λ told. P told.items) → IfOk r (λ told. Q told.items)
-told_with (Ok told) P Q f h = f told.items h
-told_with (Err x) P Q f h = tt
-
-told_both : {E : Type 0} (r : Result (Vec Answer Global) E) (P Q R : List Answer → Type 0) → ((as' : List Answer) → P as' → Q as' → R as') → IfOk r (λ told. P told.items) → IfOk r (λ told. Q told.items) → IfOk r (λ told. R told.items)
-told_both (Ok told) P Q R f h k = f told.items h k
-told_both (Err x) P Q R f h k = tt
-
--- a mirror's answer in its place
-up_in : {D : Type 0} {G : Ghosts D} (first master old new : RepoStore D G) (given : D) (o : Option Answer) → ((n : ℕ) → o ≡ Some (Ok n) → BringsUp (repository_of first) (repository_of old) (repository_of master) (repository_of new))
-    → IsUp {G = G} first master o (Stood given old new)
-up_in first master old new given None h = tt
-up_in first master old new given (Some (Ok n)) h = h n refl
-up_in first master old new given (Some (Err f)) h = tt
-
+-- of places
 last_place : (n m : ℕ) → m ≡ n + 1 → n < m
 last_place n m e = omega (arith, e)
 
@@ -128,6 +93,95 @@ from_none n = omega arith
 
 to_none : (k n : ℕ) → k < 0 + n → k < n
 to_none k n less = omega (arith, less)
+
+-- a slot before the next is before this one, or this one
+before_next : (slot place next : ℕ) (P : Type 0) → next ≡ place + 1 → slot < next → (slot < place → P) → (slot ≡ place → P) → P
+before_next slot place next P counted less first last = by (nat_le place slot) refl
+  where
+    by : (b : Bool) → nat_le place slot ≡ b → P
+    by true e = last (not_before (grind (arith, nat_tests)))
+      where
+        not_before : place ≤ slot → slot ≡ place
+        not_before at = omega (arith, at, counted, less)
+    by false e = first (grind (arith, nat_tests))
+
+-- of stores in their slots
+module _ {D : Type 0} {G : Ghosts D} where
+  stands_snoc : (k : ℕ) (rs : List (Option Refusal)) (r : Option Refusal) (stores : FleetStores D G) → stands k (rs ++ r ∷ []) stores ≡ stands k rs stores ++ stand r (head_at stores (k + length rs)) ∷ []
+  stands_snoc k [] r stores = ap (λ n. stand r (head_at stores n) ∷ []) (omega arith)
+  stands_snoc k (x ∷ rs) r stores =
+      ap (λ ss. stand x (head_at stores k) ∷ ss)
+      (stands_snoc (k + 1) rs r stores ∙ ap (λ n. stands (k + 1) rs stores ++ stand r (head_at stores n) ∷ []) (omega arith))
+
+  stands_long : (k : ℕ) (rs : List (Option Refusal)) (stores : FleetStores D G) → length (stands k rs stores) ≡ length rs
+  stands_long k [] stores = refl
+  stands_long k (r ∷ rs) stores = ap suc (stands_long (k + 1) rs stores)
+
+  -- which slots' mirrors were brought up, where one more folder was refused
+  judged_refused : (old new : FleetStores D G) (place next : ℕ) (came : List (Came G)) (e : Refusal) (lent : Option (D × D)) (slot : ℕ) (up : Bool) → next ≡ place + 1 → IsJudgedFrom old new next came slot up
+      → IsJudgedFrom old new place (Refused e lent ∷ came) slot up
+  judged_refused old new place next came e lent slot up counted (inl j) =
+      before_next slot place next (IsJudgedFrom old new place (Refused e lent ∷ came) slot up) counted j.0 (λ less. inl (less, j.1)) (λ at. inr (0, omega (arith, at), tt))
+  judged_refused old new place next came e lent slot up counted (inr j) = inr (suc j.0, omega (arith, j.1, counted), j.2)
+
+  -- and where one more was opened
+  module _ (up : Bool) (first master later_first later_master : RepoStore D G) (e : later_first ≡ first) (f : later_master ≡ master) where
+    out_now : (before after : RepoStore D G) → ComesOutNow up later_first before master after → ComesOutNow up first before later_master after
+    out_now before after j = subst (λ m. ComesOutNow up first before m after) (sym f) (subst (λ m. ComesOutNow up m before master after) e j)
+
+    comes_as : (c : Option (Came G)) → ComesAs later_first master c up → ComesAs first later_master c up
+    comes_as c j = subst (λ m. ComesAs first m c up) (sym f) (subst (λ m. ComesAs m master c up) e j)
+
+  judged_opened : (old put new left : FleetStores D G) (place next : ℕ) (came : List (Came G)) (given : D) (store now : RepoStore D G) (slot : ℕ) (up : Bool) → next ≡ place + 1 → put.master ≡ old.master → left.master ≡ new.master
+      → store_at put place ≡ Some store → store_at new place ≡ Some now → ((other : ℕ) → other ≢ place → store_at put other ≡ store_at old other) → ((other : ℕ) → other ≢ place → store_at left other ≡ store_at new other)
+      → IsJudgedFrom put new next came slot up → IsJudgedFrom old left place (Stood given store now ∷ came) slot up
+  judged_opened old put new left place next came given store now slot up counted put_master left_master there there_now others others_left (inl j) =
+      before_next slot place next (IsJudgedFrom old left place (Stood given store now ∷ came) slot up) counted j.0
+      (λ less. inl (
+        less,
+        λ before after was is. out_now up old.master new.master put.master left.master put_master left_master before after
+            (j.1 before after (others slot (not_last slot place less) ∙ was) (sym (others_left slot (not_last slot place less)) ∙ is)),
+      ))
+      (λ at. inr (0, omega (arith, at), out_now up old.master new.master put.master left.master put_master left_master store now (j.1 store now (ap (store_at put) at ∙ there) (ap (store_at new) at ∙ there_now))))
+  judged_opened old put new left place next came given store now slot up counted put_master left_master there there_now others others_left (inr j) =
+      inr (suc j.0, omega (arith, j.1, counted), comes_as up old.master new.master put.master left.master put_master left_master (slice_get came j.0) j.2)
+
+  -- where no folder was opened before
+  judged_all : (old new : FleetStores D G) (first master : RepoStore D G) (refusals : List (Option Refusal)) (came : List (Came G)) (slot : ℕ) (up : Bool) → refusals ≡ [] → old.master ≡ first → master ≡ new.master
+      → IsJudgedFrom old new (length refusals) came slot up → ComesAs first master (slice_get came slot) up
+  judged_all old new first master refusals came slot up none e f (inl j) = absurd (let long = ap length none in omega (arith, j.0, long))
+  judged_all old new first master refusals came slot up none e f (inr j) =
+      let at : j.0 ≡ slot = (let long = ap length none in omega (arith, j.1, long)) in
+      comes_as up first new.master old.master master e f (slice_get came slot) (subst (λ k. ComesAs old.master new.master (slice_get came k) up) at j.2)
+
+  stands_same : (k : ℕ) (rs : List (Option Refusal)) (s t : FleetStores D G) → ((n : ℕ) → n < k + length rs → store_at s n ≡ store_at t n) → stands k rs s ≡ stands k rs t
+  stands_same k [] s t same = refl
+  stands_same k (r ∷ rs) s t same =
+      ap (λ o. stand r (option_map (λ x. head_of (revisions_of x)) o) ∷ stands (k + 1) rs s) (same k (omega arith))
+      ∙ ap (λ ss. stand r (head_at t k) ∷ ss) (stands_same (k + 1) rs s t (λ n less. same n (omega (arith, less))))
+
+  some_of : (o : Option (RepoStore D G)) → is_some o ≡ true → (s : RepoStore D G) × (o ≡ Some s)
+  some_of None e = absurd (true≢false (sym e))
+  some_of (Some s) e = (s, refl)
+
+-- what is told by whether slots' mirrors were brought up is so by what follows from that
+is_told_so : {D : Type 0} (G : Ghosts D) (P Q : Bool → Type 0) (order : Order) (s : Result ℕ Refusal) (a : Answer) → ((up : Bool) → P up → Q up) → IsTold G P order s a → IsTold G Q order s a
+is_told_so G P Q order (Err e) a f h = h
+is_told_so G P Q order (Ok head) (Ok n) f h = (h.0, h.1, f true h.2)
+is_told_so G P Q order (Ok head) (Err e) f (inl h) = inl h
+is_told_so G P Q order (Ok head) (Err e) f (inr h) = inr (h.0, h.1, f false h.2)
+
+told_so : {D : Type 0} (G : Ghosts D) (P Q : ℕ → Bool → Type 0) (slot : ℕ) (ss : List (Result ℕ Refusal)) (as' : List Answer) → ((n : ℕ) → n < slot + length ss → (up : Bool) → P n up → Q n up) → AreTold G P slot ss as' → AreTold G Q slot ss as'
+told_so G P Q slot [] [] f h = tt
+told_so G P Q slot [] (a ∷ as') f h = absurd h
+told_so G P Q slot (s ∷ ss) [] f h = absurd h
+told_so G P Q slot (s ∷ ss) (a ∷ as') f h =
+    (is_told_so G (P slot) (Q slot) (sync_order slot) s a (f slot (omega arith)) h.0, told_so G P Q (slot + 1) ss as' (λ n less. f n (omega (arith, less))) h.1)
+
+told_by : {D E : Type 0} (G : Ghosts D) (P Q : ℕ → Bool → Type 0) (r : Result (Vec Answer Global) E) (ss ts : List (Result ℕ Refusal)) → ss ≡ ts → ((n : ℕ) → n < length ss → (up : Bool) → P n up → Q n up) → IfOk r (λ told. AreTold G P 0 ss told.items)
+    → IfOk r (λ told. AreTold G Q 0 ts told.items)
+told_by G P Q (Ok told) ss ts e f h = subst (λ k. AreTold G Q 0 k told.items) e (told_so G P Q 0 ss told.items (λ n less. f n (omega (arith, less))) h)
+told_by G P Q (Err x) ss ts e f h = tt
 
 module _ {F D : Type 0} (G : Ghosts D) (H : FolderGhosts F D) where
   -- where one folder is left as it was, and then others
@@ -224,15 +278,14 @@ module _ {F D : Type 0} (G : Ghosts D) (H : FolderGhosts F D) where
 
   -- the fleet is run where no folder is left
   pub brought_none : {E : Type 0} (folders : F) (names : List (List ℕ)) (refusals : List (Option Refusal)) (old new : FleetStores D G) (answers : Result (Vec Answer Global) E) → names ≡ []
-      → SameSlots old new → IfOk answers (λ told. AreTold G 0 (stands 0 refusals new) told.items) → IfOk answers (λ told. AreBroughtUp old new told.items) → AreBrought G H folders folders names refusals old new answers
-  brought_none folders names refusals old new answers none same told up =
+      → SameSlots old new → IfOk answers (λ told. AreTold G (IsJudged old new) 0 (stands 0 refusals new) told.items) → AreBrought G H folders folders names refusals old new answers
+  brought_none folders names refusals old new answers none same told =
       subst (λ ns. AreBrought G H folders folders ns refusals old new answers) (sym none) (record {
         came = [];
         come = record { each = tt; back = λ rules. none_lent G H folders; later = omega arith };
         slots = λ slot less. same slot;
-        told = told_by G answers _ _ (sym (append-nil (stands 0 refusals new))) told;
-        up = told_with answers (AreBroughtUp old new) (λ as'. AreUp old.master new.master (length refusals) as' []) (λ as' h. tt) up;
-        earlier = told_with answers (AreBroughtUp old new) (AreUpBefore old new (length refusals)) (λ as' h slot n less at. h slot n at) up;
+        told = told_by G (IsJudged old new) (IsJudgedFrom old new (length refusals) []) answers _ _ (sym (append-nil (stands 0 refusals new)))
+            (λ n less up j. inl (let long = stands_long 0 refusals new in omega (arith, less, long), j)) told;
       })
 
   module _ {E : Type 0} (folders mid now : F) (name : List ℕ) (names : List (List ℕ)) (refusals more : List (Option Refusal)) (answers : Result (Vec Answer Global) E) where
@@ -245,14 +298,11 @@ module _ {F D : Type 0} (G : Ghosts D) (H : FolderGhosts F D) where
           came = Refused e u.0 ∷ b.came;
           come = u.1;
           slots = λ slot less. b.slots slot (before_last slot (length refusals) (length more) (ap length pushed ∙ length-append refusals (Some e ∷ [])) less);
-          told = told_by G answers _ _
+          told = told_by G (IsJudgedFrom old new (length more) b.came) (IsJudgedFrom old new (length refusals) (Refused e u.0 ∷ b.came)) answers _ _
               (ap (λ rs. stands 0 rs new ++ map standing b.came) pushed
               ∙ (ap (λ ss. ss ++ map standing b.came) (stands_snoc 0 refusals (Some e) new)
-              ∙ append_assoc (stands 0 refusals new) (Err e ∷ []) (map standing b.came))) b.told;
-          up = told_with answers (λ as'. AreUp old.master new.master (length more) as' b.came) (λ as'. AreUp old.master new.master (length refusals) as' (Refused e u.0 ∷ b.came))
-              (λ as' h. (tt, subst (λ k. AreUp old.master new.master k as' b.came) (ap length pushed ∙ length-append refusals (Some e ∷ [])) h)) b.up;
-          earlier = told_with answers (AreUpBefore old new (length more)) (AreUpBefore old new (length refusals))
-              (λ as' h slot n less at. h slot n (before_last slot (length refusals) (length more) (ap length pushed ∙ length-append refusals (Some e ∷ [])) less) at) b.earlier;
+              ∙ append_assoc (stands 0 refusals new) (Err e ∷ []) (map standing b.came)))
+              (λ n less up j. judged_refused old new (length refusals) (length more) b.came e u.0 n up (ap length pushed ∙ length-append refusals (Some e ∷ [])) j) b.told;
         }
 
     -- one is opened, in the slot behind the others
@@ -270,23 +320,13 @@ module _ {F D : Type 0} (G : Ghosts D) (H : FolderGhosts F D) where
           slots = λ slot less.
               ap is_some (others_left slot (not_last slot (length refusals) less))
               ∙ (b.slots slot (before_last slot (length refusals) (length more) counted less) ∙ ap is_some (others slot (not_last slot (length refusals) less)));
-          told = told_by G answers _ _
+          told = told_by G (IsJudgedFrom put new (length more) b.came) (IsJudgedFrom old left (length refusals) (Stood o.0 store s.0 ∷ b.came)) answers _ _
               (ap (λ rs. stands 0 rs new ++ map standing b.came) pushed
               ∙ (ap (λ ss. ss ++ map standing b.came) (stands_snoc 0 refusals None new)
               ∙ (ap (λ x. (stands 0 refusals new ++ stand None (option_map (λ r. head_of (revisions_of r)) x) ∷ []) ++ map standing b.came) (ap (store_at new) (from_none (length refusals)) ∙ s.1)
               ∙ (append_assoc (stands 0 refusals new) (Ok (head_of (revisions_of s.0)) ∷ []) (map standing b.came)
-              ∙ ap (λ ss. ss ++ Ok (head_of (revisions_of s.0)) ∷ map standing b.came) (stands_same 0 refusals new left (λ n less. sym (others_left n (not_last n (length refusals) (to_none n (length refusals) less))))))))) b.told;
-          up = told_both answers (λ as'. AreUp put.master new.master (length more) as' b.came) (AreUpBefore put new (length more)) (λ as'. AreUp old.master left.master (length refusals) as' (Stood o.0 store s.0 ∷ b.came))
-              (λ as' h early. subst (λ m. AreUp old.master m (length refusals) as' (Stood o.0 store s.0 ∷ b.came)) (sym left_master)
-              (subst (λ m. AreUp m new.master (length refusals) as' (Stood o.0 store s.0 ∷ b.came)) put_master (
-                up_in put.master new.master store s.0 o.0 (slice_get as' (length refusals)) (λ n at. early (length refusals) n (last_place (length refusals) (length more) counted) at store s.0 there s.1),
-                subst (λ k. AreUp put.master new.master k as' b.came) counted h,
-              ))) b.up b.earlier;
-          earlier = told_with answers (AreUpBefore put new (length more)) (AreUpBefore old left (length refusals))
-              (λ as' early slot n less at before after was is.
-              subst (λ m. BringsUp (repository_of old.master) (repository_of before) (repository_of m) (repository_of after)) (sym left_master)
-              (subst (λ m. BringsUp (repository_of m) (repository_of before) (repository_of new.master) (repository_of after)) put_master
-              (early slot n (before_last slot (length refusals) (length more) counted less) at before after (others slot (not_last slot (length refusals) less) ∙ was) (sym (others_left slot (not_last slot (length refusals) less)) ∙ is)))) b.earlier;
+              ∙ ap (λ ss. ss ++ Ok (head_of (revisions_of s.0)) ∷ map standing b.came) (stands_same 0 refusals new left (λ n less. sym (others_left n (not_last n (length refusals) (to_none n (length refusals) less)))))))))
+              (λ n less up j. judged_opened old put new left (length refusals) (length more) b.came o.0 store s.0 n up counted put_master left_master there s.1 others others_left j) b.told;
         }
 
     pub brought_opened_at : (last : F) (store : RepoStore D G) (old put new left : FleetStores D G) (slot : ℕ) → slot ≡ length refusals → put.master ≡ old.master → left.master ≡ new.master → IsOpenedIn G H folders mid name store → KeptThen store
@@ -318,11 +358,8 @@ module _ {F D : Type 0} (G : Ghosts D) (H : FolderGhosts F D) where
     new = new_store;
     came = b.came;
     come = stood_then folders mid now master names b.came last store new_store o k kept b.come t;
-    done = told_both answers (AreTold G 0 (map standing b.came)) (λ as'. AreUp store new_store 0 as' b.came) (λ as'. AreToldOf G as' store new_store b.came) (λ as' h up. (h, up))
-        (told_by G answers _ _ (ap (λ rs. stands 0 rs new ++ map standing b.came) none) b.told)
-        (told_with answers (λ as'. AreUp old.master new.master (length refusals) as' b.came) (λ as'. AreUp store new_store 0 as' b.came)
-        (λ as' h. subst (λ m. AreUp store m 0 as' b.came) (sym last_store)
-        (subst (λ m. AreUp m new.master 0 as' b.came) first (subst (λ rs. AreUp old.master new.master (length rs) as' b.came) none h))) b.up);
+    done = told_by G (IsJudgedFrom old new (length refusals) b.came) (λ slot. ComesAs store new_store (slice_get b.came slot)) answers _ _ (ap (λ rs. stands 0 rs new ++ map standing b.came) none)
+        (λ n less up j. judged_all old new store new_store refusals b.came n up none first last_store j) b.told;
   }
 
   fleet_as : (folders later : F) (master : List ℕ) (names : List (List ℕ)) (P Q : RepoStore D G → RepoStore D G → List (Came G) → Type 0) → ((a b : RepoStore D G) (cs : List (Came G)) → P a b cs → Q a b cs)

@@ -1,5 +1,5 @@
 -- What `fleet` does over the repositories that stand in folders, and why it doesn't.
-use Rattle.std.specs.Prelude.{◌≡◌, ◌≤◌, ◌<◌, ◌⊎◌, ◌++◌, ◌+◌, ℕ, Bool, true, List, [], ◌∷◌, length, map, slice_get, Option, Some, None, IfSome, Result, Ok, Err, IfOk, Vec, is_some, is_ok, string_bytes}
+use Rattle.std.specs.Prelude.{◌≡◌, ◌≤◌, ◌<◌, ◌⊎◌, ◌++◌, ◌+◌, ℕ, Bool, List, [], ◌∷◌, length, map, slice_get, Option, Some, None, Result, Ok, Err, IfOk, Vec, is_some, is_ok, string_bytes}
 use Rattle.std.specs.Io.KnownBytes.{Appends}
 use Rattle.std.specs.List.{list_all, AllZip}
 use Rattle.std.specs.declared.alloc.Global.{Global}
@@ -9,10 +9,9 @@ use Rattle.fleet_jobs.specs.Answers.{Answer}
 use Rattle.node_base.specs.declared.refusal.Refusal.{Refusal}
 use Rattle.node_base.specs.declared.refusal.Refusal.TheVariants as refusal
 use Rattle.repo_core.specs.Repository.{head_of}
-use Rattle.repo_store.specs.Words.{disk_of, repository_of, revisions_of, IsKept as StoreIsKept}
+use Rattle.repo_store.specs.Words.{disk_of, revisions_of, IsKept as StoreIsKept}
 use Rattle.repo_store.specs.declared.store.RepoStore.{RepoStore}
-use Rattle.fleet_shares.specs.Agreed.{BringsUp}
-use Rattle.fleet_shares.specs.Closing.{IsBroughtUp}
+use Rattle.fleet_shares.specs.Closing.{ComesOutNow, IsJudged}
 use Rattle.fleet_shares.specs.Lines.{lines_of}
 use Rattle.fleet_shares.specs.Stores.{store_at}
 use Rattle.fleet_shares.specs.Told.{stands, AreTold}
@@ -55,23 +54,19 @@ abbrev pub standing : {D : Type 0} {G : Ghosts D} → Came G → Result ℕ Refu
 standing (Refused e lent) = Err e
 standing (Stood given old new) = Ok (head_of (revisions_of new))
 
--- a mirror of which a newest revision is told was brought up to the master, as both were opened and as both are
-abbrev pub IsUp : {D : Type 0} {G : Ghosts D} → RepoStore D G → RepoStore D G → Option Answer → Came G → Type 0
-IsUp first master answer (Refused e lent) = Unit {0}
-IsUp first master answer (Stood given old new) = IfSome answer (λ a. IfOk a (λ n. BringsUp (repository_of first) (repository_of old) (repository_of master) (repository_of new)))
+-- whether a mirror was brought up to its master, by how both were opened and how they are
+abbrev pub ComesAs : {D : Type 0} {G : Ghosts D} → RepoStore D G → RepoStore D G → Option (Came G) → Bool → Type 0
+ComesAs first master None up = ⊥
+ComesAs first master (Some (Refused e lent)) up = Unit {0}
+ComesAs first master (Some (Stood given old new)) up = ComesOutNow up first old master new
 
--- of each, by the answers from that place on
-abbrev pub AreUp : {D : Type 0} {G : Ghosts D} → RepoStore D G → RepoStore D G → ℕ → List Answer → List (Came G) → Type 0
-AreUp first master place answers [] = Unit {0}
-AreUp first master place answers (c ∷ cs) = IsUp first master (slice_get answers place) c × AreUp first master (place + 1) answers cs
-
--- of those that were opened before that place
-abbrev pub AreUpBefore : {D : Type 0} {G : Ghosts D} → FleetStores D G → FleetStores D G → ℕ → List Answer → Type 0
-AreUpBefore old new place answers = (slot n : ℕ) → slot < place → slice_get answers slot ≡ Some (Ok n) → IsBroughtUp old new slot
+-- the mirror of a slot was, of those that were opened before that place, and of those behind them
+abbrev pub IsJudgedFrom : {D : Type 0} {G : Ghosts D} → FleetStores D G → FleetStores D G → ℕ → List (Came G) → ℕ → Bool → Type 0
+IsJudgedFrom old new place came slot up = ((slot < place) × IsJudged old new slot up) ⊎ ((k : ℕ) × (slot ≡ place + k) × ComesAs old.master new.master (slice_get came k) up)
 
 -- what is told of the mirrors of a master, by how each was opened and how it is
 abbrev pub AreToldOf : {D : Type 0} (G : Ghosts D) → List Answer → RepoStore D G → RepoStore D G → List (Came G) → Type 0
-AreToldOf G answers first master came = AreTold G 0 (map standing came) answers × AreUp first master 0 answers came
+AreToldOf G answers first master came = AreTold G (λ slot. ComesAs first master (slice_get came slot)) 0 (map standing came) answers
 
 -- nothing is told
 abbrev pub AreUntold : {D : Type 0} (G : Ghosts D) → RepoStore D G → RepoStore D G → List (Came G) → Type 0
@@ -82,9 +77,7 @@ pub record AreBrought {F D E : Type 0} (G : Ghosts D) (H : FolderGhosts F D) (be
   pub came : List (Came G)
   pub come : HaveCome G H before now folders came
   pub slots : (slot : ℕ) → slot < length refusals → is_some (store_at new slot) ≡ is_some (store_at old slot)
-  pub told : IfOk answers (λ told. AreTold G 0 (stands 0 refusals new ++ map standing came) told.items)
-  pub up : IfOk answers (λ told. AreUp old.master new.master (length refusals) told.items came)
-  pub earlier : IfOk answers (λ told. AreUpBefore old new (length refusals) told.items)
+  pub told : IfOk answers (λ told. AreTold G (IsJudgedFrom old new (length refusals) came) 0 (stands 0 refusals new ++ map standing came) told.items)
 
 -- a master was opened and then its mirrors; all are back, and P is so of the master as it was and is, and of what came of the mirrors
 pub record OfFleet {F D : Type 0} (G : Ghosts D) (H : FolderGhosts F D) (folders later : F) (master : List ℕ) (mirrors : List (List ℕ)) (P : RepoStore D G → RepoStore D G → List (Came G) → Type 0) : Type 0 where

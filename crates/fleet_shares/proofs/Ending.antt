@@ -1,5 +1,5 @@
 -- What a job's run was, and what it is answered with.
-use Rattle.std.proofs.Common.{◌≡◌, ◌⊎◌, inl, inr, ℕ, List, [], ◌++◌, None, Result, Ok, Err, subst, refl, sym, arith}
+use Rattle.std.proofs.Common.{◌≡◌, inl, inr, ℕ, List, [], ◌++◌, None, Result, Ok, Err, subst, refl, sym}
 use Rattle.std.specs.List.{AllByRecursion, AllZip}
 use Rattle.fleet_jobs.specs.declared.order.Order.{Order}
 use Rattle.fleet_jobs.specs.declared.order.Work.{Work}
@@ -18,22 +18,17 @@ use Rattle.sync_core.specs.Jobs.{Job, begun}
 use Rattle.sync_core.specs.Jobs as jobs
 use Rattle.sync_core.specs.declared.fault.SyncFault.{SyncFault}
 use Rattle.sync_job.specs.Questions.{IsSaidOf, KeepsAnswers, questions_in}
-use Rattle.sync_job.specs.Runs.{Runs, ReportedFrom, IsCopying, IsWithin}
-use Rattle.sync_job.specs.Said.{Spoken, told_in}
+use Rattle.sync_job.specs.Runs.{Runs, IsCopying, IsWithin}
+use Rattle.sync_job.specs.Said.{Spoken}
 use Rattle.sync_job.specs.Telling.{IsOther, IsSaidAs, KeepsTelling, calls_in, others_in}
 use Rattle.sync_job.specs.declared.report.Told.{Told}
-use Rattle.fleet_shares.specs.Agreed.{AreAgreed}
 use Rattle.fleet_shares.specs.Answers.{Answers, EndsAs}
-use Rattle.fleet_shares.specs.Brought.{AgreeAt}
-use Rattle.fleet_shares.specs.Heard.{IsHeard, IsIn, Notes, NotesOf}
 use Rattle.fleet_shares.specs.Jobs.{EndsBy, HasRun, IsHeardFrom, IsRunOf, job_order}
 use Rattle.fleet_shares.specs.Ports.{WasTold}
 use Rattle.fleet_shares.specs.Ports as master
-use Rattle.fleet_shares.specs.declared.heard.Heard.{Heard}
 use Rattle.fleet_shares.specs.declared.master.SharedMaster.{SharedMaster}
 use Rattle.fleet_shares.proofs.Agreeing.{IsMade, brings}
 use Rattle.fleet_shares.proofs.Meeting.{met_in}
-use Rattle.fleet_shares.proofs.Noting.{all_committed}
 
 -- a run that nobody hears, from the first word that was said
 pub unheard : {B : Type 0} (N : Job → ℕ → Type 0) (order : jobs.Order) (End : List Spoken → Type 0) (old said : List Spoken) (before after : B → List Told → Type 0) → old ≡ []
@@ -47,15 +42,6 @@ unheard N order End old said before after e run = record {
   let_go = run.let_go;
   end = run.end;
 }
-
--- and of what its report notes
-pub hears : (N : Job → ℕ → Type 0) (order : jobs.Order) (End : List Spoken → Type 0) (old said : List Spoken) (before after : Heard) → old ≡ [] → Runs N order old said (Notes before) (Notes after) End → NotesOf after before said
-hears N order End old said before after e run =
-    subst (λ es. NotesOf after before es) (sym (subst (λ (l : List Spoken). said ≡ l ++ run.more) e run.adds)) (run.tells before [] (λ n w. inl w))
-
-reported_in : (work : Work) (token : List ℕ) (said : List Spoken) (ended : Result (Unit {0}) SyncFault) → IsRunOf work token said ended → ReportedFrom [] said
-reported_in (Sync steal) token said ended run = subst (λ es. ReportedFrom [] es) (sym run.adds) run.reported
-reported_in (Copy low high) token said ended run = subst (λ es. ReportedFrom [] es) (sym run.adds) run.reported
 
 -- what was said of a shared master through ports through which nothing was said before
 heard_from : {R L D : Type 0} {r : _} {g : _} (share : MasterShare L D r g) (first last : SharedMaster R L D r g) (said : List Spoken) → master.share_of first ≡ share → KeepsAnswers WasTold first last [] said → IsHeardFrom share said
@@ -98,39 +84,6 @@ ends_as origin asked heard share first last order said (Ok u) o answers e none k
 ends_as origin asked heard share first last order said (Ok u) o answers e none keeps (inr memory) = absurd (let starved = memory.0 in cc)
 ends_as origin asked heard share first last order said (Err f) o answers e none keeps (inl run) = inl (ran_at origin share first last order said (Err f) (heard_from origin asked heard said o answers) e none keeps run)
 ends_as origin asked heard share first last order said (Err f) o answers e none keeps (inr memory) = let starved = memory.0 in inr (cc)
-
--- the rows agree in each revision that its report notes
-pub agrees_as : {R M L D : Type 0} {m : _} {r : _} {g : _} (asked heard : SharedMaster R M D m g) (first last : SeatMirror R L D r g) (order : Order) (said : List Spoken) (ended : Result (Unit {0}) SyncFault) (blank report : Heard)
-    → KeepsAnswers WasTold asked heard [] said → KeepsTelling WasAsked first last [] said → EndsBy order said ended → blank.high ≡ 0 → NotesOf report blank said → AreAgreed (master.seat_of heard) (reader_of last) report
-agrees_as asked heard first last order said ended blank report answers keeps (inr memory) none notes = λ n within. by n (subst (λ es. IsIn blank n ⊎ IsHeard n (told_in es)) memory.1 (notes n within))
-  where
-    by : (n : ℕ) → IsIn blank n ⊎ IsHeard n [] → AgreeAt (master.seat_of heard) (reader_of last) n
-    by n (inl w) = absurd (let below = w.1 in omega (arith, none, below))
-    by n (inr w) = absurd w
-agrees_as asked heard first last order said ended blank report answers keeps (inl run) none notes = λ n within. by n (notes n within)
-  where
-    by : (n : ℕ) → IsIn blank n ⊎ IsHeard n (told_in said) → AgreeAt (master.seat_of heard) (reader_of last) n
-    by n (inl w) = absurd (let below = w.1 in omega (arith, none, below))
-    by n (inr w) =
-        let u = answers asked [] (record { made = []; more = []; adds = refl; answered = record { share = refl; told = tt }; said = tt }) in
-        let t = keeps first [] (record { made = []; more = []; adds = refl; asked = record { share = refl; seat = refl; steps = tt; seen = tt; carried = refl }; said = tt; others = tt }) in
-        let made : IsMade (master.share_of asked) (share_of first) (master.seat_of heard) (reader_of last) said = record {
-          seat = place_of (seat_of first);
-          made = t.made;
-          steps = t.asked.steps;
-          seen = t.asked.seen;
-          calls = subst (λ xs. AllZip IsSaidAs t.made (calls_in xs)) (sym t.adds) t.said;
-          asked = u.made;
-          answers = u.answered.told;
-          questions = subst (λ xs. AllZip IsSaidOf u.made (questions_in xs)) (sym u.adds) u.said;
-        } in
-        let all = brings (master.share_of asked) (share_of first) (master.seat_of heard) (reader_of last) order.work order.token said ended run made in
-        let c = all_committed n said (reported_in order.work order.token said ended run) w in
-        let is = all.copied n c.0 c.1.0 c.1.1 in (c.0, is.master_has, is.mirror_has)
-
--- so do those of its parts
-pub agreed_parts : {M L : Type 0} {m : _} {r : _} (theirs t : ReaderSeat M m) (ours o : ReaderSeat L r) (report h : Heard) → t ≡ theirs → o ≡ ours → h ≡ report → AreAgreed theirs ours report → AreAgreed t o h
-agreed_parts theirs t ours o report h e f i a = subst (λ x. AreAgreed x o h) (sym e) (subst (λ x. AreAgreed theirs x h) (sym f) (subst (λ x. AreAgreed theirs ours x) (sym i) a))
 
 -- what it is answered with
 pub answered_well : {M L D : Type 0} {m : _} {r : _} {g : _} (origin : MasterShare M D m g) (share : MirrorShare L D r g) (order : Order) (n : ℕ) (seat : ReaderSeat L r) (ended : Result (Unit {0}) SyncFault) (u : Unit {0}) → ended ≡ Ok u

@@ -6,8 +6,9 @@ pub mod Ending
 pub mod Forgetting
 pub mod Giving
 pub mod Ordering
-pub mod Noting
 pub mod Settling
 pub mod Slots
 pub mod Telling
 pub mod Meeting
+pub mod Comparing
+pub mod Alike

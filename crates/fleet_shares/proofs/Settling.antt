@@ -1,40 +1,28 @@
--- What comes of shared stores: they have what they had, and a mirror what its last job brought.
-use Rattle.std.proofs.Common.{◌≡◌, ℕ, ◌≤◌, ◌<◌, ◌+◌, length, if◌then◌else◌, zero, suc, Bool, true, false, List, Option, Some, None, Result, Ok, Err, IfOk, is_some, refl, sym, ap, subst, ◌∙◌, arith}
-use Rattle.std.specs.Prelude.{nat_le}
-use Rattle.std.proofs.Math.Logic.{∥∥₁_elim}
-use Rattle.std.proofs.lemmas.Bool.Decides.{nat_tests}
-use Rattle.std.specs.Coded.{Coded-set, coded_option}
-use Rattle.std.specs.Option.{option_map}
-use Rattle.dump_load.specs.Coded.{coded_set}
-use Rattle.dump_load.specs.declared.change.Change.{Change}
+-- What comes of shared stores: they have what they had, and a mirror what it has besides of its master's.
+use Rattle.std.proofs.Common.{◌≡◌, inl, inr, ℕ, ◌≤◌, ◌<◌, ◌+◌, length, if◌then◌else◌, zero, suc, Bool, true, false, true≢false, List, Option, Some, None, Result, Ok, Err, IfOk, refl, sym, ap, subst, ◌∙◌, arith}
 use Rattle.mirror_share.specs.Names.{opened_in}
 use Rattle.mirror_share.specs.Seen.{HasSeenAll}
 use Rattle.mirror_share.specs.declared.opened.OpenedMirror.{OpenedMirror}
 use Rattle.repo_core.specs.Repository.{Repository, head_of}
 use Rattle.repo_store.specs.Words.{repository_of, revisions_of}
 use Rattle.repo_store.specs.declared.store.RepoStore.{RepoStore}
-use Rattle.store_share.specs.Book.{store_of}
+use Rattle.store_share.specs.Book.{is_stuck, store_of}
 use Rattle.store_share.specs.Book as books
-use Rattle.store_share.specs.Facts.{coded_rev}
 use Rattle.store_share.specs.Opened.{store_in}
 use Rattle.store_share.specs.Row.{rev_at}
 use Rattle.store_share.specs.Seats.{known_by, seen_by}
 use Rattle.store_share.specs.declared.book.MasterBook.{MasterBook}
+use Rattle.store_share.specs.declared.name.RowName.{Ghosts as RowGhosts}
 use Rattle.store_share.specs.declared.opened.OpenedStore.{OpenedStore}
-use Rattle.store_share.specs.declared.rev.Rev.{Rev}
 use Rattle.store_share.specs.declared.seat.ReaderSeat.{ReaderSeat}
-use Rattle.fleet_shares.specs.Agreed.{Adds, AreAgreed, BringsUp, HaveSet, IsFront, IsSameTo}
-use Rattle.fleet_shares.specs.Brought.{AgreeAt, AgreeUpTo, HasSeen}
-use Rattle.fleet_shares.specs.Closing.{brings_at, IsBroughtIn, IsBroughtSince, IsBroughtUp, IsReadBy, IsSettled}
-use Rattle.fleet_shares.specs.Heard.{covers}
+use Rattle.fleet_shares.specs.Agreed.{Adds, BringsUp, IsAddedTo, IsFront, IsOther}
+use Rattle.fleet_shares.specs.Closing.{brings_at, ComesOut, ComesOutNow, HasStayed, IsBroughtBy, IsBroughtIn, IsBroughtSince, IsJudged, IsLost, IsReadBy, IsSettled, IsUnlike}
 use Rattle.fleet_shares.specs.Opening.{stored_in, IsOpenedFrom}
+use Rattle.fleet_shares.specs.Ran.{named_by}
+use Rattle.fleet_shares.specs.Stores.{store_at}
 use Rattle.fleet_shares.specs.declared.brings.Brings.{Brings}
-use Rattle.fleet_shares.specs.declared.heard.Heard.{Heard}
 use Rattle.fleet_shares.specs.declared.stores.FleetStores.{FleetStores}
 use Rattle.fleet_shares.specs.declared.stores.OpenedFleet.{OpenedFleet}
-use Rattle.fleet_shares.specs.declared.trail.Trail.{Trail}
-use Rattle.fleet_shares.proofs.Agreeing.{same_up_to}
-use Rattle.fleet_shares.proofs.Noting.{covered}
 
 -- the newest revision of a book of which each cell took its box
 pub newest_of : {L D : Type 0} {r : _} {g : _} (book : MasterBook L D r g) (y : Repository) (n : ℕ) → y ≡ repository_of (store_of book) → n ≡ head_of y.revisions → 0 < length y.revisions → books.head_of book + 1 ≡ length (revisions_of (store_of book))
@@ -52,93 +40,27 @@ stays_on old new y head shown is at within known kept x all = record {
   same = λ n le. sym (all.1 n le) ∙ (sym (kept n (omega (arith, le, all.0))) ∙ known n (omega (arith, le, all.0, within, at)));
 }
 
--- nothing was added
-pub adds_none : (above : ℕ) (s m : Repository) → head_of s.revisions ≡ above → Adds above s m
-adds_none above s m is = record {
-  more = λ n from to. absurd (omega (arith, from, to, is));
-  whole = λ same. subst (λ k. IsSameTo s m k) (sym is) same;
-}
+-- or it isn't known to have it
+pub stuck_now : {L D : Type 0} {r : _} {g : _} (book : MasterBook L D r g) (head : ℕ) → is_stuck book ≡ true → IsLost r head (store_of book)
+stuck_now book head is = inl (book, refl, is)
 
-abbrev set_of : Option Rev → Option (List Change)
-set_of o = option_map (λ (v : Rev). v.set) o
+-- whether a store has what it had and what it has besides is told
+pub brought_by : {L D : Type 0} {r : _} {g : _} (seat : ReaderSeat L r) (above : ℕ) (old now : RepoStore D g) (x y m : Repository) (stayed added : Bool) → above ≡ seen_by seat → x ≡ repository_of now → now ≡ old → y ≡ m → stayed ≡ true → HasStayed stayed seat old
+    → IsAddedTo added above x y → IsBroughtBy added seat old m
+brought_by {L} {D} {r} {g} seat above old now x y m stayed added at is same whose up h k =
+    by added (subst (λ w. IsAddedTo added above w m) (is ∙ ap (λ (s : RepoStore D g). repository_of s) same) (subst (λ w. IsAddedTo added above x w) whose k))
+  where
+    by : (b : Bool) → IsAddedTo b above (repository_of old) m → IsBroughtBy b seat old m
+    by true adds = λ z all. (subst (λ b. HasStayed b seat old) up h z all, subst (λ i. Adds i (repository_of old) m) (at ∙ all.0) adds)
+    by false other = inr (subst (λ i. IsOther i (repository_of old) m) at other)
 
--- a revision that is known has a set, and so the same one
-has_set : (o p : Option Rev) (n : ℕ) → option_map (λ (v : Rev). v.number) o ≡ Some n → p ≡ o → (set : List Change) × (set_of o ≡ Some set) × (set_of p ≡ Some set)
-has_set None p n known same = absurd (cc)
-has_set (Some v) p n known same = (v.set, refl, ap set_of same)
+pub not_brought_by : {L D : Type 0} {r : _} {g : _} (seat : ReaderSeat L r) (old : RepoStore D g) (m : Repository) (stayed : Bool) → stayed ≡ false → HasStayed stayed seat old → IsBroughtBy false seat old m
+not_brought_by seat old m stayed lost h = inl (subst (λ b. HasStayed b seat old) lost h)
 
-module _ {M L : Type 0} {m : _} {r : _} (theirs theirs_now : ReaderSeat M m) (ours ours_now : ReaderSeat L r) (heard : Heard) (x y : Repository) (above : ℕ)
-    (within : head_of x.revisions ≤ head_of y.revisions) (covered_by : covers heard above (head_of x.revisions) ≡ true)
-    (known_ours : (n : ℕ) → n ≤ head_of x.revisions → known_by ours_now n ≡ rev_at x n) (known_theirs : (n : ℕ) → n ≤ head_of y.revisions → known_by theirs_now n ≡ rev_at y n)
-    (kept_ours : (n : ℕ) → n ≤ seen_by ours → known_by ours_now n ≡ known_by ours n) (kept_theirs : (n : ℕ) → n ≤ seen_by theirs → known_by theirs_now n ≡ known_by theirs n)
-    (reach_ours : head_of x.revisions ≤ seen_by ours_now) (reach_theirs : head_of y.revisions ≤ seen_by theirs_now) where
-  -- above that number both know the same set
-  agreed_now : AreAgreed theirs ours heard → (n : ℕ) → above < n → n ≤ head_of x.revisions → AgreeAt theirs_now ours_now n
-  agreed_now agreed n from to =
-      let a = agreed n (covered heard above (head_of x.revisions) covered_by n from to) in (
-        a.0,
-        record { within = omega (arith, to, within, reach_theirs); set_is = ap set_of (kept_theirs n a.1.within) ∙ a.1.set_is },
-        record { within = omega (arith, to, reach_ours); set_is = ap set_of (kept_ours n a.2.within) ∙ a.2.set_is },
-      )
-
-  set_same : (n : ℕ) → n ≤ head_of x.revisions → AgreeAt theirs_now ours_now n → set_of (rev_at x n) ≡ set_of (rev_at y n)
-  set_same n to a = ap set_of (sym (known_ours n to)) ∙ (a.2.set_is ∙ (sym a.1.set_is ∙ ap set_of (known_theirs n (omega (arith, to, within)))))
-
-  -- and below it where they have the same revision
-  agree_below : IsSameTo x y above → (n : ℕ) → n ≤ above → n ≤ head_of x.revisions → AgreeAt theirs_now ours_now n
-  agree_below same n low to =
-      let s = has_set (known_by ours_now n) (known_by theirs_now n) n (ours_now.known n (omega (arith, to, reach_ours)))
-      (known_theirs n (omega (arith, to, within)) ∙ (sym (same.same n low) ∙ sym (known_ours n to))) in (
-        s.0,
-        record { within = omega (arith, to, within, reach_theirs); set_is = s.2 },
-        record { within = omega (arith, to, reach_ours); set_is = s.1 },
-      )
-
-  agree_all : AreAgreed theirs ours heard → IsSameTo x y above → AgreeUpTo theirs_now ours_now (head_of x.revisions)
-  agree_all agreed same n to = by (nat_le n above) refl
-    where
-      by : (b : Bool) → nat_le n above ≡ b → AgreeAt theirs_now ours_now n
-      by true e = agree_below same n (grind (arith, nat_tests)) to
-      by false e = agreed_now agreed n (grind (arith, nat_tests)) to
-
-  pub adds_by : ∥ AreAgreed theirs ours heard ∥₁ → Adds above x y
-  adds_by agreed = record {
-    more = λ n from to. record {
-      within = omega (arith, to, within);
-      same = ∥∥₁_elim agreed (Coded-set (coded_option coded_set) (set_of (rev_at x n)) (set_of (rev_at y n))) (λ a. set_same n to (agreed_now a n from to));
-    };
-    whole = λ same. record {
-      within = within;
-      same = λ n to. ∥∥₁_elim agreed (Coded-set (coded_option coded_rev) (rev_at x n) (rev_at y n))
-          (λ a. sym (known_ours n to) ∙ (same_up_to theirs_now ours_now (head_of x.revisions) (agree_all a same) n to ∙ known_theirs n (omega (arith, to, within))));
-    };
-  }
-
--- so it is of closed books, by a job's trail and what its readers know once they have asked both
-pub covers_adds : {M L D : Type 0} {m : _} {r : _} {g : _} (master : MasterBook M D m g) (book : MasterBook L D r g) (trail : Trail M L m r) (theirs : ReaderSeat M m) (ours : ReaderSeat L r) (above head last : ℕ)
-    → (head ≡ head_of (revisions_of (store_of book))) × (books.head_of book ≡ head) → (last ≡ head_of (revisions_of (store_of master))) × (books.head_of master ≡ last) → head ≤ last → covers trail.heard above head ≡ true
-    → ((n : ℕ) → n ≤ books.head_of book → known_by ours n ≡ rev_at (repository_of (store_of book)) n) → ((n : ℕ) → n ≤ seen_by trail.ours → known_by ours n ≡ known_by trail.ours n) → books.head_of book ≤ seen_by ours
-    → ((n : ℕ) → n ≤ books.head_of master → known_by theirs n ≡ rev_at (repository_of (store_of master)) n) → ((n : ℕ) → n ≤ seen_by trail.theirs → known_by theirs n ≡ known_by trail.theirs n) → books.head_of master ≤ seen_by theirs
-    → Adds above (repository_of (store_of book)) (repository_of (store_of master))
-covers_adds master book trail theirs ours above head last a b within cov known_ours kept_ours reach_ours known_theirs kept_theirs reach_theirs =
-    adds_by trail.theirs theirs trail.ours ours trail.heard (repository_of (store_of book)) (repository_of (store_of master)) above (omega (arith, within, a.0, b.0)) (subst (λ h. covers trail.heard above h ≡ true) a.0 cov)
-    (λ n to. known_ours n (omega (arith, to, a.0, a.1))) (λ n to. known_theirs n (omega (arith, to, b.0, b.1))) kept_ours kept_theirs (omega (arith, reach_ours, a.0, a.1)) (omega (arith, reach_theirs, b.0, b.1)) trail.agreed
-
--- a store that has what it had, and of which what it has besides is told
-pub stays_and_adds : {L D : Type 0} {r : _} {g : _} (seat : ReaderSeat L r) (above : ℕ) (old now : RepoStore D g) (m : Repository) (stayed added : Bool) → above ≡ seen_by seat → now ≡ old → stayed ≡ true
-    → (stayed ≡ true → (x : Repository) → HasSeenAll seat x → IsFront x (repository_of old)) → (added ≡ true → Adds above (repository_of now) m)
-    → added ≡ true → (x : Repository) → HasSeenAll seat x → IsFront x (repository_of old) × Adds (head_of x.revisions) (repository_of old) m
-stays_and_adds {D = D} {g = g} seat above old now m stayed added at same is h k up x all = (
-  h is x all,
-  subst (λ i. Adds i (repository_of old) m) (at ∙ all.0) (subst (λ (s : RepoStore D g). Adds above (repository_of s) m) same (k up)),
-)
-
-pub settled_by : {L D : Type 0} {r : _} {g : _} (up : Bool) (opened : Option (ReaderSeat L r)) (seat : ReaderSeat L r) (store now old : RepoStore D g) (m : Repository) → opened ≡ Some seat → store ≡ now → now ≡ old
-    → (up ≡ true → (x : Repository) → HasSeenAll seat x → IsFront x (repository_of old) × Adds (head_of x.revisions) (repository_of old) m) → IsSettled up (Some store) opened m
-settled_by false opened seat store now old m is e f h = tt
-settled_by {L = L} {D = D} {r = r} {g = g} true opened seat store now old m is e f h =
-    subst (λ (o : Option (ReaderSeat L r)). IsSettled true (Some store) o m) (sym is)
-    (subst (λ (s : RepoStore D g). IsSettled true (Some s) (Some seat) m) (sym (e ∙ f)) (h refl))
+pub settled_by : {L D : Type 0} {r : _} {g : _} (up : Bool) (opened : Option (ReaderSeat L r)) (seat : ReaderSeat L r) (store now old : RepoStore D g) (m : Repository) → opened ≡ Some seat → store ≡ now → now ≡ old → IsBroughtBy up seat old m
+    → IsSettled up (Some store) opened m
+settled_by {L = L} {D = D} {r = r} {g = g} up opened seat store now old m is e f h =
+    subst (λ (o : Option (ReaderSeat L r)). IsSettled up (Some store) o m) (sym is) (subst (λ (s : RepoStore D g). IsBroughtBy up seat s m) (sym (e ∙ f)) h)
 
 -- a mirror that has what it had, and what its master has besides
 brings_up : (old_master old_mirror master mirror : Repository) → IsFront old_master master → IsFront old_mirror mirror → Adds (head_of old_mirror.revisions) mirror master → BringsUp old_master old_mirror master mirror
@@ -152,31 +74,38 @@ brings_up old_master old_mirror master mirror first second adds = record {
   });
 }
 
+both_up : (stays up : Bool) → (if stays then up else false) ≡ true → up ≡ true
+both_up true up e = e
+both_up false up e = absurd (true≢false (sym e))
+
 -- of a slot
 brought_since : {M L D : Type 0} {m : _} {r : _} {g : _} (stays up both : Bool) (theirs : ReaderSeat M m) (ours : Option (ReaderSeat L r)) (first master : RepoStore D g) (store : Option (RepoStore D g))
-    → both ≡ (if stays then up else false) → master ≡ first → (stays ≡ true → (x : Repository) → HasSeenAll theirs x → IsFront x (repository_of first)) → IsSettled up store ours (repository_of first) → IsBroughtSince both theirs ours master store
-brought_since false up both theirs ours first master store is same h k = subst (λ b. IsBroughtSince b theirs ours master store) (sym is) tt
-brought_since true false both theirs ours first master store is same h k = subst (λ b. IsBroughtSince b theirs ours master store) (sym is) tt
-brought_since true true both theirs ours first master None is same h k = subst (λ b. IsBroughtSince b theirs ours master None) (sym is) tt
-brought_since true true both theirs None first master (Some s) is same h k = absurd k
-brought_since true true both theirs (Some o) first master (Some s) is same h k =
-    subst (λ b. IsBroughtSince b theirs (Some o) master (Some s)) (sym is)
-    (subst (λ y. IsBroughtSince true theirs (Some o) y (Some s)) (sym same) (λ x z seen all. let both_are = k z all in brings_up x z (repository_of first) (repository_of s) (h refl x seen) both_are.0 both_are.1))
+    → both ≡ (if stays then up else false) → master ≡ first → HasStayed stays theirs first → IsSettled up store ours (repository_of first) → IsBroughtSince both theirs ours master store
+brought_since stays up both theirs ours first master None is same h k = tt
+brought_since stays up both theirs None first master (Some s) is same h k = λ t. k (both_up stays up (sym is ∙ t))
+brought_since {D = D} {g = g} stays up both theirs (Some o) first master (Some s) is same h k =
+    subst (λ b. IsBroughtSince b theirs (Some o) master (Some s)) (sym is) (subst (λ (y : RepoStore D g). IsBroughtSince (if stays then up else false) theirs (Some o) y (Some s)) (sym same) (by stays up h k))
+  where
+    by : (b c : Bool) → HasStayed b theirs first → IsBroughtBy c o s (repository_of first) → IsBroughtSince (if b then c else false) theirs (Some o) first (Some s)
+    by false c lost k = inl lost
+    by true false stayed unlike = inr unlike
+    by true true stayed brought = λ x z seen all. let both_are = brought z all in brings_up x z (repository_of first) (repository_of s) (stayed x seen) both_are.0 both_are.1
 
 -- where the master's store was another value of the same
 pub brought_after : {M L D : Type 0} {m : _} {r : _} {g : _} (stays up both : Bool) (theirs : ReaderSeat M m) (ours : Option (ReaderSeat L r)) (first mid master : RepoStore D g) (store : Option (RepoStore D g))
-    → both ≡ (if stays then up else false) → mid ≡ first → master ≡ first → (stays ≡ true → (x : Repository) → HasSeenAll theirs x → IsFront x (repository_of first)) → IsSettled up store ours (repository_of mid) → IsBroughtSince both theirs ours master store
+    → both ≡ (if stays then up else false) → mid ≡ first → master ≡ first → HasStayed stays theirs first → IsSettled up store ours (repository_of mid) → IsBroughtSince both theirs ours master store
 brought_after {D = D} {g = g} stays up both theirs ours first mid master store is at same h k =
     brought_since stays up both theirs ours first master store is same h (subst (λ (x : RepoStore D g). IsSettled up store ours (repository_of x)) at k)
 
 -- by how it was opened
 pub brought_in : {M L D : Type 0} {m : _} {r : _} {g : _} (up : Bool) (theirs : ReaderSeat M m) (ours : Option (ReaderSeat L r)) (first : OpenedStore D g) (opened : Option (OpenedMirror D g)) (master : RepoStore D g) (store : Option (RepoStore D g))
-    → HasSeenAll theirs (repository_of (store_in first)) → IsReadBy opened ours → IsBroughtSince up theirs ours master store → IsBroughtIn up first opened master store
-brought_in false theirs ours first opened master store h k b = tt
-brought_in true theirs ours first None master store h k b = tt
-brought_in true theirs ours first (Some o) master None h k b = tt
-brought_in true theirs None first (Some o) master (Some s) h k b = absurd b
+    → HasSeenAll theirs (repository_of (store_in first)) → IsReadBy opened ours → IsBroughtSince up theirs ours master store → IsBroughtIn m r up first opened master store
+brought_in up theirs ours first None master store h k b = tt
+brought_in up theirs ours first (Some o) master None h k b = tt
+brought_in up theirs None first (Some o) master (Some s) h k b = absurd k
 brought_in true theirs (Some seat) first (Some o) master (Some s) h k b = b (repository_of (store_in first)) (repository_of (store_in (opened_in o))) h k
+brought_in {m = m} {r = r} false theirs (Some seat) first (Some o) master (Some s) h k b =
+    subst (λ n. IsUnlike m r n (head_of (revisions_of (store_in (opened_in o)))) master s) h.0 (subst (λ n. IsUnlike m r (seen_by theirs) n master s) k.0 b)
 
 -- what is so of one of several results, where all of them came
 pub of_all : {A B E : Type 0} (all : Result A E) (one : Result B E) (part : A → B) (P : B → Type 0) → IfOk all (λ r. one ≡ Ok (part r)) → IfOk one P → IfOk all (λ r. P (part r))
@@ -184,15 +113,14 @@ of_all {B = B} {E = E} (Ok r) one part P is h = subst (λ (x : Result B E). IfOk
 of_all (Err e) one part P is h = tt
 
 -- by the stores that were given
-brought_one : {D : Type 0} {g : _} (up : Bool) (first : OpenedStore D g) (opened : Option (OpenedMirror D g)) (given master : RepoStore D g) (slot now : Option (RepoStore D g)) → up ≡ true → store_in first ≡ given → stored_in (Ok opened) ≡ slot
-    → IsBroughtIn up first opened master now → (before after : RepoStore D g) → slot ≡ Some before → now ≡ Some after → BringsUp (repository_of given) (repository_of before) (repository_of master) (repository_of after)
-brought_one false first opened given master slot now is same from h before after was there = absurd (cc)
-brought_one true first None given master slot now is same from h before after was there = absurd (let none = from ∙ was in cc)
-brought_one true first (Some o) given master slot None is same from h before after was there = absurd (cc)
-brought_one {D} {g} true first (Some o) given master slot (Some s) is same from h before after was there =
-    subst (λ (x : RepoStore D g). BringsUp (repository_of x) (repository_of before) (repository_of master) (repository_of after)) same
-    (subst (λ (x : RepoStore D g). BringsUp (repository_of (store_in first)) (repository_of x) (repository_of master) (repository_of after)) (same_store (store_in (opened_in o)) before (from ∙ was))
-    (subst (λ (x : RepoStore D g). BringsUp (repository_of (store_in first)) (repository_of (store_in (opened_in o))) (repository_of master) (repository_of x)) (same_store s after there) h))
+came_out : {M L D : Type 0} {g : _} (m : RowGhosts M) (r : RowGhosts L) (up : Bool) (first : OpenedStore D g) (opened : Option (OpenedMirror D g)) (given master : RepoStore D g) (slot now : Option (RepoStore D g)) → store_in first ≡ given → stored_in (Ok opened) ≡ slot
+    → IsBroughtIn m r up first opened master now → (before after : RepoStore D g) → slot ≡ Some before → now ≡ Some after → ComesOut m r up given before master after
+came_out m r up first None given master slot now same from h before after was there = absurd (let none = from ∙ was in cc)
+came_out m r up first (Some o) given master slot None same from h before after was there = absurd (cc)
+came_out {D = D} {g = g} m r up first (Some o) given master slot (Some s) same from h before after was there =
+    subst (λ (x : RepoStore D g). ComesOut m r up x before master after) same
+    (subst (λ (x : RepoStore D g). ComesOut m r up (store_in first) x master after) (same_store (store_in (opened_in o)) before (from ∙ was))
+    (subst (λ (x : RepoStore D g). ComesOut m r up (store_in first) (store_in (opened_in o)) master x) (same_store s after there) h))
   where
     same_store : (x y : RepoStore D g) → Some x ≡ Some y → x ≡ y
     same_store x y e = ap (λ o. of x o) e
@@ -201,18 +129,30 @@ brought_one {D} {g} true first (Some o) given master slot (Some s) is same from 
         of d (Some z) = z
         of d None = d
 
-module _ {D : Type 0} {g : _} (stores new : FleetStores D g) (opened : OpenedFleet D g) (from : IsOpenedFrom stores.master stores.first stores.second stores.third stores.fourth opened) where
-  brought_slots : (b : Brings) → IsBroughtIn b.first opened.master opened.first new.master new.first → IsBroughtIn b.second opened.master opened.second new.master new.second
-      → IsBroughtIn b.third opened.master opened.third new.master new.third → IsBroughtIn b.fourth opened.master opened.fourth new.master new.fourth
-      → (slot : ℕ) → brings_at b slot ≡ true → IsBroughtUp stores new slot
-  brought_slots b h k i j zero up = brought_one b.first opened.master opened.first stores.master new.master stores.first new.first up from.0 from.1 h
-  brought_slots b h k i j (suc zero) up = brought_one b.second opened.master opened.second stores.master new.master stores.second new.second up from.0 from.2 k
-  brought_slots b h k i j (suc (suc zero)) up = brought_one b.third opened.master opened.third stores.master new.master stores.third new.third up from.0 from.3 i
-  brought_slots b h k i j (suc (suc (suc zero))) up = brought_one b.fourth opened.master opened.fourth stores.master new.master stores.fourth new.fourth up from.0 from.4 j
-  brought_slots b h k i j (suc (suc (suc (suc n)))) up = absurd (cc)
+module _ {D : Type 0} {g : _} (m r0 r1 r2 r3 : List ℕ) (stores new : FleetStores D g) (opened : OpenedFleet D g) (from : IsOpenedFrom stores.master stores.first stores.second stores.third stores.fourth opened) where
+  -- whatever cells the rows have
+  now_out : (r : List ℕ) (up : Bool) (w x y z : RepoStore D g) → ComesOut (named_by m) (named_by r) up w x y z → ComesOutNow up w x y z
+  now_out r true w x y z h = h
+  now_out r false w x y z h = (m, (r, h))
 
-  pub brought_over : {T E : Type 0} (r : Result (T × Brings) E) → IfOk r (λ ran. IsBroughtIn ran.1.first opened.master opened.first new.master new.first) → IfOk r (λ ran. IsBroughtIn ran.1.second opened.master opened.second new.master new.second)
-      → IfOk r (λ ran. IsBroughtIn ran.1.third opened.master opened.third new.master new.third) → IfOk r (λ ran. IsBroughtIn ran.1.fourth opened.master opened.fourth new.master new.fourth)
-      → IfOk r (λ ran. (slot : ℕ) → brings_at ran.1 slot ≡ true → IsBroughtUp stores new slot)
+  judged : (r : List ℕ) (up : Bool) (slot : ℕ) → ((before after : RepoStore D g) → store_at stores slot ≡ Some before → store_at new slot ≡ Some after → ComesOut (named_by m) (named_by r) up stores.master before new.master after) → IsJudged stores new slot up
+  judged r up slot h = λ before after was there. now_out r up stores.master before new.master after (h before after was there)
+
+  no_slot : (before : RepoStore D g) (P : Type 0) → None ≡ Some before → P
+  no_slot before P e = absurd (cc)
+
+  brought_slots : (b : Brings) → IsBroughtIn (named_by m) (named_by r0) b.first opened.master opened.first new.master new.first → IsBroughtIn (named_by m) (named_by r1) b.second opened.master opened.second new.master new.second
+      → IsBroughtIn (named_by m) (named_by r2) b.third opened.master opened.third new.master new.third → IsBroughtIn (named_by m) (named_by r3) b.fourth opened.master opened.fourth new.master new.fourth
+      → (slot : ℕ) → IsJudged stores new slot (brings_at b slot)
+  brought_slots b h k i j zero = judged r0 b.first 0 (came_out (named_by m) (named_by r0) b.first opened.master opened.first stores.master new.master stores.first new.first from.0 from.1 h)
+  brought_slots b h k i j (suc zero) = judged r1 b.second 1 (came_out (named_by m) (named_by r1) b.second opened.master opened.second stores.master new.master stores.second new.second from.0 from.2 k)
+  brought_slots b h k i j (suc (suc zero)) = judged r2 b.third 2 (came_out (named_by m) (named_by r2) b.third opened.master opened.third stores.master new.master stores.third new.third from.0 from.3 i)
+  brought_slots b h k i j (suc (suc (suc zero))) = judged r3 b.fourth 3 (came_out (named_by m) (named_by r3) b.fourth opened.master opened.fourth stores.master new.master stores.fourth new.fourth from.0 from.4 j)
+  brought_slots b h k i j (suc (suc (suc (suc n)))) = λ before after was there. no_slot before _ was
+
+  pub brought_over : {T E : Type 0} (r : Result (T × Brings) E) → IfOk r (λ ran. IsBroughtIn (named_by m) (named_by r0) ran.1.first opened.master opened.first new.master new.first)
+      → IfOk r (λ ran. IsBroughtIn (named_by m) (named_by r1) ran.1.second opened.master opened.second new.master new.second)
+      → IfOk r (λ ran. IsBroughtIn (named_by m) (named_by r2) ran.1.third opened.master opened.third new.master new.third)
+      → IfOk r (λ ran. IsBroughtIn (named_by m) (named_by r3) ran.1.fourth opened.master opened.fourth new.master new.fourth) → IfOk r (λ ran. (slot : ℕ) → IsJudged stores new slot (brings_at ran.1 slot))
   brought_over (Ok ran) h k i j = brought_slots ran.1 h k i j
   brought_over (Err e) h k i j = tt

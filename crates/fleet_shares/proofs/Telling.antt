@@ -1,7 +1,6 @@
 -- What is told of each mirror is so of its answer and of its store.
-use Rattle.std.proofs.Common.{◌≡◌, inl, inr, ℕ, zero, suc, ◌+◌, Bool, true, false, List, [], ◌∷◌, ◌++◌, append_assoc, length, map, Option, Some, None, Result, Ok, Err, IfOk, IfSome, Vec, is_some, refl, sym, ap, subst, ◌∙◌, arith}
+use Rattle.std.proofs.Common.{◌≡◌, inl, inr, ℕ, zero, suc, ◌+◌, Bool, true, false, List, [], ◌∷◌, ◌++◌, append_assoc, length, map, Option, Some, None, Result, Ok, Err, IfOk, IfSome, Vec, is_some, refl, sym, ap, subst, ◌∙◌}
 use Rattle.std.specs.List.{AllZip, range_with_len}
-use Rattle.std.specs.Prelude.{slice_get}
 use Rattle.std.specs.Option.{option_map, option_to_list}
 use Rattle.std.specs.declared.alloc.Global.{Global}
 use Rattle.std.proofs.lemmas.Bool.{true≢false}
@@ -12,7 +11,7 @@ use Rattle.node_base.specs.declared.refusal.Refusal.{Refusal}
 use Rattle.repo_core.specs.Repository.{head_of}
 use Rattle.repo_store.specs.Words.{revisions_of}
 use Rattle.repo_store.specs.declared.store.RepoStore.{RepoStore}
-use Rattle.fleet_shares.specs.Closing.{AreBroughtUp, IsBroughtUp}
+use Rattle.fleet_shares.specs.Closing.{IsJudged}
 use Rattle.fleet_shares.specs.Given.{IsAnswerAt}
 use Rattle.mirror_share.specs.Names.{IsNamed}
 use Rattle.mirror_share.specs.declared.opened.OpenedMirror.{OpenedMirror}
@@ -28,27 +27,21 @@ use Rattle.fleet_shares.proofs.Forgetting.{all_so}
 use Rattle.fleet_shares.proofs.Slots.{has_some}
 
 -- of a slot's store, with no refusal
-told_of : {D : Type 0} {g : _} (order : Order) (store : Option (RepoStore D g)) (has up : Bool) (a : Answer) → is_some store ≡ has → IsAnswerAt has (HasEnded g order a) order a
-    → IsTold g order (stand None (option_map (λ s. head_of (revisions_of s)) store)) (tell (stand None (option_map (λ s. head_of (revisions_of s)) store)) up a)
-told_of order None has up a e h = refl
-told_of order (Some s) false up a e h = absurd (true≢false e)
-told_of order (Some s) true true (Ok n) e (inl ended) = (ended, refl)
-told_of order (Some s) true false (Ok n) e (inl ended) = inr (inl (refl, inr ended))
-told_of order (Some s) true true (Ok n) e (inr (inl failed)) = absurd (let is = failed.0 in cc)
-told_of order (Some s) true true (Ok n) e (inr (inr memory)) = absurd (cc)
-told_of order (Some s) true false (Ok n) e (inr (inl failed)) = absurd (let is = failed.0 in cc)
-told_of order (Some s) true false (Ok n) e (inr (inr memory)) = absurd (cc)
-told_of order (Some s) true up (Err f) e (inl ended) = inl ended
-told_of order (Some s) true up (Err f) e (inr (inl failed)) = inr (inl (let is = failed.0 in cc, inl failed.1))
-told_of order (Some s) true up (Err f) e (inr (inr memory)) = inr (inr (cc))
+told_of : {D : Type 0} {g : _} (Judged : Bool → Type 0) (order : Order) (store : Option (RepoStore D g)) (has up : Bool) (a : Answer) → is_some store ≡ has → Judged up → IsAnswerAt has (HasEnded g order a) a
+    → IsTold g Judged order (stand None (option_map (λ s. head_of (revisions_of s)) store)) (tell (stand None (option_map (λ s. head_of (revisions_of s)) store)) up a)
+told_of Judged order None has up a e j h = refl
+told_of Judged order (Some s) false up a e j h = absurd (true≢false e)
+told_of Judged order (Some s) true true (Ok n) e j ended = (ended, refl, j)
+told_of Judged order (Some s) true false (Ok n) e j ended = inr (refl, ended, j)
+told_of Judged order (Some s) true up (Err f) e j ended = inl ended
 
-module _ {D : Type 0} {g : _} (old new : FleetStores D g) (same : SameSlots old new) (up : ℕ → Bool) where
-  told_one : (slot : ℕ) (r : Option Refusal) (a : Answer) → IsAnswerOver old (sync_order slot) a → IsTold g (sync_order slot) (stand r (head_at new slot)) (tell (stand r (head_at new slot)) (up slot) a)
+module _ {D : Type 0} {g : _} (old new : FleetStores D g) (same : SameSlots old new) (up : ℕ → Bool) (judged : (slot : ℕ) → IsJudged old new slot (up slot)) where
+  told_one : (slot : ℕ) (r : Option Refusal) (a : Answer) → IsAnswerOver old (sync_order slot) a → IsTold g (IsJudged old new slot) (sync_order slot) (stand r (head_at new slot)) (tell (stand r (head_at new slot)) (up slot) a)
   told_one slot (Some e) a h = refl
-  told_one slot None a h = told_of (sync_order slot) (store_at new slot) (is_some (store_at old slot)) (up slot) a (same slot) h
+  told_one slot None a h = told_of (IsJudged old new slot) (sync_order slot) (store_at new slot) (is_some (store_at old slot)) (up slot) a (same slot) (judged slot) h
 
   told_all : (slot : ℕ) (rs : List (Option Refusal)) (answers : List Answer) → AllZip (IsAnswerOver old) (map sync_order (range_with_len slot (length rs))) answers
-      → AreTold g slot (stands slot rs new) (tells up slot (stands slot rs new) answers)
+      → AreTold g (IsJudged old new) slot (stands slot rs new) (tells up slot (stands slot rs new) answers)
   told_all slot [] [] h = tt
   told_all slot [] (a ∷ more) h = absurd h
   told_all slot (r ∷ rs) [] h = absurd h
@@ -56,43 +49,10 @@ module _ {D : Type 0} {g : _} (old new : FleetStores D g) (same : SameSlots old 
 
   -- of the orders of all slots
   pub all_told : (rs : List (Option Refusal)) (count : ℕ) (orders : List Order) (answers told : List Answer) → count ≡ length rs → orders ≡ map sync_order (range_with_len 0 count)
-      → AllZip (IsAnswerOver old) orders answers → told ≡ tells up 0 (stands 0 rs new) answers → AreTold g 0 (stands 0 rs new) told
+      → AllZip (IsAnswerOver old) orders answers → told ≡ tells up 0 (stands 0 rs new) answers → AreTold g (IsJudged old new) 0 (stands 0 rs new) told
   all_told rs count orders answers told counted ordered h e =
-      subst (AreTold g 0 (stands 0 rs new)) (sym e)
+      subst (AreTold g (IsJudged old new) 0 (stands 0 rs new)) (sym e)
       (told_all 0 rs answers (subst (λ os. AllZip (IsAnswerOver old) os answers) (ordered ∙ ap (λ n. map sync_order (range_with_len 0 n)) counted) h))
-
--- a newest revision is told only of a mirror that was brought up
-told_up : (s : Result ℕ Refusal) (b : Bool) (a : Answer) (n : ℕ) → tell s b a ≡ Ok n → b ≡ true
-told_up (Err e) b a n is = absurd (cc)
-told_up (Ok head) true (Ok k) n is = refl
-told_up (Ok head) false (Ok k) n is = absurd (cc)
-told_up (Ok head) b (Err f) n is = absurd (cc)
-
-next_up : (s : Result ℕ Refusal) (b : Bool) (o : Option Answer) (n : ℕ) → tell_next s b o ≡ Ok n → b ≡ true
-next_up s b None n is = absurd (cc)
-next_up s b (Some a) n is = told_up s b a n is
-
-same_answer : (a b : Answer) → Some a ≡ Some b → a ≡ b
-same_answer a b e = ap (λ o. get_or_this a o) e
-  where
-    get_or_this : Answer → Option Answer → Answer
-    get_or_this d (Some x) = x
-    get_or_this d None = d
-
-up_at : (up : ℕ → Bool) (k i n : ℕ) (ss : List (Result ℕ Refusal)) (answers : List Answer) → slice_get (tells up k ss answers) i ≡ Some (Ok n) → up (k + i) ≡ true
-up_at up k i n [] answers is = absurd (cc)
-up_at up k zero n (s ∷ ss) [] is = subst (λ j. up j ≡ true) (omega arith) (next_up s (up k) None n (same_answer _ _ is))
-up_at up k zero n (s ∷ ss) (a ∷ more) is = subst (λ j. up j ≡ true) (omega arith) (next_up s (up k) (Some a) n (same_answer _ _ is))
-up_at up k (suc i) n (s ∷ ss) [] is = subst (λ j. up j ≡ true) (omega arith) (up_at up (k + 1) i n ss [] is)
-up_at up k (suc i) n (s ∷ ss) (a ∷ more) is = subst (λ j. up j ≡ true) (omega arith) (up_at up (k + 1) i n ss more is)
-
-from_none : (n : ℕ) → 0 + n ≡ n
-from_none n = omega arith
-
--- so of all that is told
-pub all_up : {D : Type 0} {g : _} (old new : FleetStores D g) (up : ℕ → Bool) (ss : List (Result ℕ Refusal)) (answers told : List Answer) → told ≡ tells up 0 ss answers
-    → ((slot : ℕ) → up slot ≡ true → IsBroughtUp old new slot) → AreBroughtUp old new told
-all_up old new up ss answers told is h slot n at = h slot (subst (λ j. up j ≡ true) (from_none slot) (up_at up 0 slot n ss answers (ap (λ l. slice_get l slot) (sym is) ∙ at)))
 
 -- the answers over opened stores are those over the stores
 named : {D : Type 0} (g : Ghosts D) (m r0 r1 r2 r3 : List ℕ) (k : ℕ) (o : Order) (a : Answer)
@@ -103,15 +63,14 @@ named g m r0 r1 r2 r3 (suc (suc zero)) o a h = (m, (r2, h))
 named g m r0 r1 r2 r3 (suc (suc (suc zero))) o a h = (m, (r3, h))
 named g m r0 r1 r2 r3 (suc (suc (suc (suc n)))) o a h = absurd h
 
-answer_so : (b : Bool) (P Q : Type 0) (o : Order) (a : Answer) → (P → Q) → IsAnswerAt b P o a → IsAnswerAt b Q o a
-answer_so false P Q o a f h = h
-answer_so true P Q o a f (inl p) = inl (f p)
-answer_so true P Q o a f (inr x) = inr x
+answer_so : (b : Bool) (P Q : Type 0) (a : Answer) → (P → Q) → IsAnswerAt b P a → IsAnswerAt b Q a
+answer_so false P Q a f h = h
+answer_so true P Q a f p = f p
 
 over_stores : {D : Type 0} {g : _} (m r0 r1 r2 r3 : List ℕ) (stores : FleetStores D g) (opened : OpenedFleet D g) → HasOpened (is_some stores.first) (is_some stores.second) (is_some stores.third) (is_some stores.fourth) opened
     → (o : Order) (a : Answer) → IsAnswerIn (named_by m) (named_by r0) (named_by r1) (named_by r2) (named_by r3) opened o a → IsAnswerOver stores o a
 over_stores {g = g} m r0 r1 r2 r3 stores opened same o a h =
-    subst (λ b. IsAnswerAt b (HasEnded g o a) o a) (sym (has_some stores _ _ _ _ (sym same.0, sym same.1, sym same.2, sym same.3) o.mirror)) (answer_so _ _ _ o a (named g m r0 r1 r2 r3 o.mirror o a) h)
+    subst (λ b. IsAnswerAt b (HasEnded g o a) a) (sym (has_some stores _ _ _ _ (sym same.0, sym same.1, sym same.2, sym same.3) o.mirror)) (answer_so _ _ _ a (named g m r0 r1 r2 r3 o.mirror o a) h)
 
 pub answered_over : {D : Type 0} {g : _} {T E : Type 0} (m r0 r1 r2 r3 : List ℕ) (stores : FleetStores D g) (opened : OpenedFleet D g) (os : List Order) (r : Result (Vec Answer Global × T) E)
     → HasOpened (is_some stores.first) (is_some stores.second) (is_some stores.third) (is_some stores.fourth) opened

@@ -1,16 +1,8 @@
--- Where two rows agree, and two repositories.
-use Rattle.std.specs.Prelude.{◌≡◌, ◌<◌, ◌≤◌, ℕ}
+-- Where two repositories agree.
+use Rattle.std.specs.Prelude.{◌≡◌, ◌<◌, ◌≤◌, ℕ, Bool, true, false}
 use Rattle.std.specs.Option.{option_map}
 use Rattle.repo_core.specs.Repository.{Repository, head_of}
 use Rattle.store_share.specs.Row.{rev_at}
-use Rattle.store_share.specs.declared.seat.ReaderSeat.{ReaderSeat}
-use Rattle.fleet_shares.specs.Brought.{AgreeAt}
-use Rattle.fleet_shares.specs.Heard.{IsIn}
-use Rattle.fleet_shares.specs.declared.heard.Heard.{Heard}
-
--- in each revision that was noted the rows agree
-abbrev pub AreAgreed : {M L : Type 0} {m : _} {r : _} → ReaderSeat M m → ReaderSeat L r → Heard → Type 0
-AreAgreed theirs ours heard = (n : ℕ) → IsIn heard n → AgreeAt theirs ours n
 
 -- a repository's revisions up to a number are the other's: the same sets of changes and the same trees
 pub record IsSameTo (x y : Repository) (last : ℕ) : Type 0 where
@@ -30,6 +22,18 @@ pub record HaveSet (x y : Repository) (n : ℕ) : Type 0 where
 pub record Adds (above : ℕ) (mirror master : Repository) : Type 0 where
   pub more : (n : ℕ) → above < n → n ≤ head_of mirror.revisions → HaveSet mirror master n
   pub whole : IsSameTo mirror master above → IsFront mirror master
+
+-- of a revision above a number it hasn't
+pub record IsOther (above : ℕ) (mirror master : Repository) : Type 0 where
+  pub number : ℕ
+  pub past : above < number
+  pub there : number ≤ head_of mirror.revisions
+  pub other : HaveSet mirror master number → ⊥
+
+-- whether it has
+abbrev pub IsAddedTo : Bool → ℕ → Repository → Repository → Type 0
+IsAddedTo true above mirror master = Adds above mirror master
+IsAddedTo false above mirror master = IsOther above mirror master
 
 -- a mirror was brought up to a master, of which both were as the first two and are as the last two: each has what it had; what the
 -- mirror has besides is the master's; and where all that it had was the master's, all that it has is

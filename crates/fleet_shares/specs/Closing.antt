@@ -1,34 +1,56 @@
 -- What comes of a fleet's stores.
-use Rattle.std.specs.Prelude.{◌≡◌, ℕ, Bool, true, false, List, Option, Some, None, Ok, slice_get}
-use Rattle.fleet_jobs.specs.Answers.{Answer}
+use Rattle.std.specs.Prelude.{◌≡◌, ◌⊎◌, ◌<◌, ℕ, Bool, true, false, List, Option, Some, None}
 use Rattle.mirror_share.specs.Names.{opened_in}
 use Rattle.mirror_share.specs.Seen.{HasSeenAll}
 use Rattle.mirror_share.specs.declared.opened.OpenedMirror.{OpenedMirror}
 use Rattle.repo_core.specs.Repository.{Repository, head_of}
-use Rattle.repo_store.specs.Words.{repository_of}
+use Rattle.repo_store.specs.Words.{repository_of, revisions_of}
 use Rattle.repo_store.specs.declared.store.RepoStore.{RepoStore}
+use Rattle.store_share.specs.Book.{is_stuck, store_of}
 use Rattle.store_share.specs.Opened.{store_in}
+use Rattle.store_share.specs.Seats.{seen_by}
+use Rattle.store_share.specs.declared.book.MasterBook.{MasterBook}
+use Rattle.store_share.specs.declared.name.RowName.{Ghosts as RowGhosts}
 use Rattle.store_share.specs.declared.opened.OpenedStore.{OpenedStore}
 use Rattle.store_share.specs.declared.seat.ReaderSeat.{ReaderSeat}
-use Rattle.fleet_shares.specs.Agreed.{Adds, BringsUp, IsFront}
+use Rattle.fleet_shares.specs.Agreed.{Adds, BringsUp, IsFront, IsOther}
+use Rattle.fleet_shares.specs.Ran.{named_by}
 use Rattle.fleet_shares.specs.Runners.{has_at}
 use Rattle.fleet_shares.specs.Stores.{store_at}
 use Rattle.fleet_shares.specs.declared.brings.Brings.{Brings}
 use Rattle.fleet_shares.specs.declared.stores.FleetStores.{FleetStores}
 
--- a store that was brought up to a master has what a reader saw when it was opened, and what it has besides is the master's
-abbrev pub IsSettled : {L D : Type 0} {r : _} {g : _} → Bool → Option (RepoStore D g) → Option (ReaderSeat L r) → Repository → Type 0
-IsSettled false store opened master = Unit {0}
-IsSettled true None opened master = Unit {0}
-IsSettled true (Some s) None master = ⊥
-IsSettled true (Some s) (Some seat) master = (x : Repository) → HasSeenAll seat x → IsFront x (repository_of s) × Adds (head_of x.revisions) (repository_of s) master
+-- a store's revisions aren't all shown, since a cell of its row refused its box; or it has fewer than so many
+abbrev pub IsLost : {L D : Type 0} {g : _} → RowGhosts L → ℕ → RepoStore D g → Type 0
+IsLost {L} {D} {g} r head store = ((book : MasterBook L D r g) × (store_of book ≡ store) × (is_stuck book ≡ true)) ⊎ (head_of (revisions_of store) < head)
 
--- a slot's mirror was brought up to the master since readers of both saw all
+-- whether a store has what a reader saw when it was opened
+abbrev pub HasStayed : {L D : Type 0} {r : _} {g : _} → Bool → ReaderSeat L r → RepoStore D g → Type 0
+HasStayed true seat store = (x : Repository) → HasSeenAll seat x → IsFront x (repository_of store)
+HasStayed {r = r} false seat store = IsLost r (seen_by seat) store
+
+-- whether a store was brought up to a master: it has what a reader saw when it was opened, and what it has besides is the master's
+abbrev pub IsBroughtBy : {L D : Type 0} {r : _} {g : _} → Bool → ReaderSeat L r → RepoStore D g → Repository → Type 0
+IsBroughtBy true seat store master = (x : Repository) → HasSeenAll seat x → IsFront x (repository_of store) × Adds (head_of x.revisions) (repository_of store) master
+IsBroughtBy {r = r} false seat store master = IsLost r (seen_by seat) store ⊎ IsOther (seen_by seat) (repository_of store) master
+
+-- the same of a slot
+abbrev pub IsSettled : {L D : Type 0} {r : _} {g : _} → Bool → Option (RepoStore D g) → Option (ReaderSeat L r) → Repository → Type 0
+IsSettled up None opened master = Unit {0}
+IsSettled up (Some s) None master = up ≡ true → ⊥
+IsSettled up (Some s) (Some seat) master = IsBroughtBy up seat s master
+
+-- why a mirror wasn't brought up to its master, of which both had such heads: the one or the other lost what it had, or the mirror has a
+-- revision besides that isn't the master's
+abbrev pub IsUnlike : {M L D : Type 0} {g : _} → RowGhosts M → RowGhosts L → ℕ → ℕ → RepoStore D g → RepoStore D g → Type 0
+IsUnlike m r master_had mirror_had master mirror = IsLost m master_had master ⊎ IsLost r mirror_had mirror ⊎ IsOther mirror_had (repository_of mirror) (repository_of master)
+
+-- whether a slot's mirror was brought up to the master since readers of both saw all
 abbrev pub IsBroughtSince : {M L D : Type 0} {m : _} {r : _} {g : _} → Bool → ReaderSeat M m → Option (ReaderSeat L r) → RepoStore D g → Option (RepoStore D g) → Type 0
-IsBroughtSince false t ours master store = Unit {0}
-IsBroughtSince true t ours master None = Unit {0}
-IsBroughtSince true t None master (Some s) = ⊥
+IsBroughtSince up t ours master None = Unit {0}
+IsBroughtSince up t None master (Some s) = up ≡ true → ⊥
 IsBroughtSince true t (Some o) master (Some s) = (m x : Repository) → HasSeenAll t m → HasSeenAll o x → BringsUp m x (repository_of master) (repository_of s)
+IsBroughtSince {m = m} {r = r} false t (Some o) master (Some s) = IsUnlike m r (seen_by t) (seen_by o) master s
 
 -- the reader of an opened mirror has seen all of it
 abbrev pub IsReadBy : {L D : Type 0} {r : _} {g : _} → Option (OpenedMirror D g) → Option (ReaderSeat L r) → Type 0
@@ -36,21 +58,25 @@ IsReadBy None reader = Unit {0}
 IsReadBy (Some o) None = ⊥
 IsReadBy (Some o) (Some seat) = HasSeenAll seat (repository_of (store_in (opened_in o)))
 
--- a slot's mirror was brought up to the master, by how both were opened and how they are
-abbrev pub IsBroughtIn : {D : Type 0} {g : _} → Bool → OpenedStore D g → Option (OpenedMirror D g) → RepoStore D g → Option (RepoStore D g) → Type 0
-IsBroughtIn false first opened master store = Unit {0}
-IsBroughtIn true first None master store = Unit {0}
-IsBroughtIn true first (Some o) master None = Unit {0}
-IsBroughtIn true first (Some o) master (Some s) = BringsUp (repository_of (store_in first)) (repository_of (store_in (opened_in o))) (repository_of master) (repository_of s)
+-- whether a mirror was brought up to its master, by how both were and how they are
+abbrev pub ComesOut : {M L D : Type 0} {g : _} → RowGhosts M → RowGhosts L → Bool → RepoStore D g → RepoStore D g → RepoStore D g → RepoStore D g → Type 0
+ComesOut m r true old_master old_mirror master mirror = BringsUp (repository_of old_master) (repository_of old_mirror) (repository_of master) (repository_of mirror)
+ComesOut m r false old_master old_mirror master mirror = IsUnlike m r (head_of (revisions_of old_master)) (head_of (revisions_of old_mirror)) master mirror
+
+-- the same of a slot, by how both were opened
+abbrev pub IsBroughtIn : {M L D : Type 0} {g : _} → RowGhosts M → RowGhosts L → Bool → OpenedStore D g → Option (OpenedMirror D g) → RepoStore D g → Option (RepoStore D g) → Type 0
+IsBroughtIn m r up first None master store = Unit {0}
+IsBroughtIn m r up first (Some o) master None = Unit {0}
+IsBroughtIn m r up first (Some o) master (Some s) = ComesOut m r up (store_in first) (store_in (opened_in o)) master s
 
 -- whether the mirror of a slot was
 abbrev pub brings_at : Brings → ℕ → Bool
 brings_at brings slot = has_at slot brings.first brings.second brings.third brings.fourth
 
--- it was, by the stores that were given and those that came back
-abbrev pub IsBroughtUp : {D : Type 0} {g : _} → FleetStores D g → FleetStores D g → ℕ → Type 0
-IsBroughtUp {D} {g} old new slot = (before after : RepoStore D g) → store_at old slot ≡ Some before → store_at new slot ≡ Some after → BringsUp (repository_of old.master) (repository_of before) (repository_of new.master) (repository_of after)
+-- the same whatever cells the rows have, by the stores that were given and those that came back
+abbrev pub ComesOutNow : {D : Type 0} {g : _} → Bool → RepoStore D g → RepoStore D g → RepoStore D g → RepoStore D g → Type 0
+ComesOutNow true old_master old_mirror master mirror = BringsUp (repository_of old_master) (repository_of old_mirror) (repository_of master) (repository_of mirror)
+ComesOutNow false old_master old_mirror master mirror = (m : List ℕ) × ((r : List ℕ) × IsUnlike (named_by m) (named_by r) (head_of (revisions_of old_master)) (head_of (revisions_of old_mirror)) master mirror)
 
--- each mirror of which a newest revision is told was
-abbrev pub AreBroughtUp : {D : Type 0} {g : _} → FleetStores D g → FleetStores D g → List Answer → Type 0
-AreBroughtUp old new answers = (slot n : ℕ) → slice_get answers slot ≡ Some (Ok n) → IsBroughtUp old new slot
+abbrev pub IsJudged : {D : Type 0} {g : _} → FleetStores D g → FleetStores D g → ℕ → Bool → Type 0
+IsJudged {D} {g} old new slot up = (before after : RepoStore D g) → store_at old slot ≡ Some before → store_at new slot ≡ Some after → ComesOutNow up old.master before new.master after

@@ -1,60 +1,68 @@
 -- Orders that are given to a fleet, and the answer of each.
-use Rattle.std.specs.Prelude.{◌≡◌, ◌⊎◌, ◌≤◌, ℕ, Bool, true, false, List, Vec, Result, [], ◌∷◌, ◌++◌, length, Option, Some, None, Ok, Err, get_or}
+use Rattle.std.specs.Prelude.{◌≡◌, ◌⊎◌, ◌≤◌, ℕ, Bool, true, false, List, Vec, Result, [], ◌∷◌, Ok, Err, vec_capacity}
 use Rattle.std.specs.declared.alloc.Global.{Global}
 use Rattle.fleet_jobs.specs.Answers.{Answer}
-use Rattle.fleet_jobs.specs.Fleets.{LeavesWaiting}
-use Rattle.fleet_jobs.specs.declared.fault.FleetFault.{FleetFault}
-use Rattle.fleet_jobs.specs.declared.fault.Refused.{Refused}
 use Rattle.fleet_jobs.specs.declared.fault.Unfinished.{Unfinished}
-use Rattle.fleet_jobs.specs.declared.fault.FleetFault.TheVariants as fleet
 use Rattle.fleet_jobs.specs.declared.order.Order.{Order}
 use Rattle.fleet_jobs.specs.declared.order.Outcome.{Outcome}
-use Rattle.fleet_jobs.specs.declared.order.Ticket.{Ticket}
-use Rattle.fleet_jobs.specs.declared.queue.Hand.{Hand}
-use Rattle.node_base.specs.declared.refusal.Refusal.TheVariants.{Failed, NoRepository}
-use Rattle.sync_core.specs.declared.fault.SyncFault.TheVariants.{Other, OutOfMemory}
-use Rattle.fleet_shares.specs.Faults.{sync_fault}
+use Rattle.node_base.specs.declared.refusal.Refusal.TheVariants.{NoRepository}
+use Rattle.sync_core.specs.declared.fault.SyncFault.TheVariants.{Other}
+use Rattle.fleet_shares.specs.declared.answers.Due.{Due}
+use Rattle.fleet_shares.specs.declared.answers.Due.TheVariants.{Waits, Ended}
 
--- what is noted of an order, by the fleet's answer: why it isn't accepted, and None of one that is
-abbrev pub note_of : Result ℕ Refused → Option FleetFault
-note_of (Ok number) = None
-note_of (Err refused) = Some refused.fault
+-- an empty list with room for so many
+abbrev pub HasRoom : {A : Type 0} → Vec A Global → ℕ → Type 0
+HasRoom v n = (v.items ≡ []) × (n ≤ vec_capacity v)
+
+-- the order itself, if it was accepted
+abbrev pub accepted_if : Bool → Order → List Order
+accepted_if true order = order ∷ []
+accepted_if false order = []
+
+-- the orders that wait
+abbrev pub waiting_in : List Due → List Order
+waiting_in [] = []
+waiting_in (Waits o ∷ ds) = o ∷ waiting_in ds
+waiting_in (Ended a ∷ ds) = waiting_in ds
+
+-- an order was given: it waits, or its job was run and answered so
+abbrev pub IsDue : (Order → Answer → Type 0) → Order → Due → Type 0
+IsDue may order (Waits o) = o ≡ order
+IsDue may order (Ended a) = may order a
 
 -- the outcomes of the orders, or of the first ones
 abbrev pub outcomes_in : Result (Vec Outcome Global) Unfinished → List Outcome
 outcomes_in (Ok outcomes) = outcomes.items
 outcomes_in (Err unfinished) = unfinished.outcomes.items
 
--- why an order isn't accepted, of slots of which these have a mirror; None of one that is
-abbrev pub IsNoted : List Bool → Order → Option FleetFault → Type 0
-IsNoted slots order None = get_or slots order.mirror false ≡ true
-IsNoted slots order (Some f) = (f ≡ fleet.NoRepository → get_or slots order.mirror false ≡ false) × (get_or slots order.mirror false ≡ false → f ≡ fleet.NoRepository)
+-- an order that waits is settled by the next outcome, if there is one; and the outcomes that are left then
+abbrev pub settled : Due → List Outcome → Due
+settled (Ended a) xs = Ended a
+settled (Waits o) [] = Waits o
+settled (Waits o) (x ∷ xs) = Ended x.result
 
--- the orders that are accepted, by what was noted of each
-abbrev pub accepted_of : List Order → List (Option FleetFault) → List Order
-accepted_of [] notes = []
-accepted_of (o ∷ os) [] = []
-accepted_of (o ∷ os) (None ∷ ns) = o ∷ accepted_of os ns
-accepted_of (o ∷ os) (Some f ∷ ns) = accepted_of os ns
+abbrev pub behind : Due → List Outcome → List Outcome
+behind (Ended a) xs = xs
+behind (Waits o) [] = []
+behind (Waits o) (x ∷ xs) = xs
 
--- an answer for each order, by what was noted of it, and the outcomes of those that were accepted: one that has none has failed (32)
-abbrev pub answers_of : List (Option FleetFault) → List Outcome → List Answer
-answers_of [] outcomes = []
-answers_of (Some f ∷ ns) outcomes = Err (sync_fault f) ∷ answers_of ns outcomes
-answers_of (None ∷ ns) [] = Err (Other Failed) ∷ answers_of ns []
-answers_of (None ∷ ns) (x ∷ xs) = x.result ∷ answers_of ns xs
+-- what is answered of it: that; or what its job answers
+abbrev pub IsPaid : (Order → Answer → Type 0) → Due → Answer → Type 0
+IsPaid may (Waits o) answer = may o answer
+IsPaid may (Ended a) answer = answer ≡ a
 
--- no worker was left for an order: it was handed back for that, of which a fleet says no more; or it was accepted, all workers have
--- ended, what they took is the beginning of what was accepted, and the order stands behind that
-pub data IsLeft (order : Order) : Type 0 where
-  HandedBack : (refused : Refused) → refused.fault ≡ fleet.Failed → refused.order ≡ order → IsLeft order
-  Waits : (giver : Hand) (workers ran : ℕ) (before after : List Ticket) (ticket : Ticket) → LeavesWaiting giver workers (before ++ ticket ∷ after) ran → ran ≤ length before → ticket.order ≡ order → IsLeft order
+-- one answer for each, in order
+abbrev pub AreAnswers : (Order → Answer → Type 0) → List Due → List Outcome → List Answer → Type 0
+AreAnswers may [] xs [] = Unit {0}
+AreAnswers may [] xs (a ∷ more) = ⊥
+AreAnswers may (d ∷ ds) xs [] = ⊥
+AreAnswers may (d ∷ ds) xs (a ∷ more) = IsPaid may (settled d xs) a × AreAnswers may ds (behind d xs) more
 
--- where the slot has a mirror an order is answered as its job may answer it, or no worker was left for it (32), or memory ran out (70);
--- else it has no repository (34)
-abbrev pub IsAnswerAt : Bool → Type 0 → Order → Answer → Type 0
-IsAnswerAt false May order answer = answer ≡ Err (Other NoRepository)
-IsAnswerAt true May order answer = May ⊎ ((answer ≡ Err (Other Failed)) × IsLeft order) ⊎ (answer ≡ Err OutOfMemory)
+-- an order is answered as its job may answer it, which a worker ran, or who gave it
+abbrev pub IsAnswered : (Order → Answer → Type 0) → (Order → Answer → Type 0) → Order → Answer → Type 0
+IsAnswered worked own order answer = worked order answer ⊎ own order answer
 
-abbrev pub IsAnswered : (Order → Answer → Type 0) → List Bool → Order → Answer → Type 0
-IsAnswered may slots order answer = IsAnswerAt (get_or slots order.mirror false) (may order answer) order answer
+-- where a slot has a mirror its order is answered as its job may answer it; else it has no repository (34)
+abbrev pub IsAnswerAt : Bool → Type 0 → Answer → Type 0
+IsAnswerAt false May answer = answer ≡ Err (Other NoRepository)
+IsAnswerAt true May answer = May

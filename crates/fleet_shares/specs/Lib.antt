@@ -4,7 +4,6 @@ pub mod Brought
 pub mod Closing
 pub mod Faults
 pub mod Given
-pub mod Heard
 pub mod Jobs
 pub mod Lines
 pub mod Opening

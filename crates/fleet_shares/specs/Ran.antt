@@ -31,4 +31,4 @@ HasEnded g order answer = (master : List ℕ) × ((mirror : List ℕ) × HasEnde
 abbrev pub IsAnswerIn : {M L0 L1 L2 L3 D : Type 0} {g : _} → RowGhosts M → RowGhosts L0 → RowGhosts L1 → RowGhosts L2 → RowGhosts L3 → OpenedFleet D g → Order → Answer → Type 0
 IsAnswerIn {g = g} m r0 r1 r2 r3 opened order answer =
     IsAnswerAt (has_at order.mirror (is_some opened.first) (is_some opened.second) (is_some opened.third) (is_some opened.fourth))
-    (at_slot order.mirror (HasEndedAt m r0 g order answer) (HasEndedAt m r1 g order answer) (HasEndedAt m r2 g order answer) (HasEndedAt m r3 g order answer) ⊥) order answer
+    (at_slot order.mirror (HasEndedAt m r0 g order answer) (HasEndedAt m r1 g order answer) (HasEndedAt m r2 g order answer) (HasEndedAt m r3 g order answer) ⊥) answer

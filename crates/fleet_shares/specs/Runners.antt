@@ -1,5 +1,5 @@
 -- What the runner over shares says of its jobs.
-use Rattle.std.specs.Prelude.{◌≡◌, ℕ, zero, suc, Bool, false, List, [], ◌∷◌, is_some, Err}
+use Rattle.std.specs.Prelude.{◌≡◌, ℕ, zero, suc, Bool, false, is_some, Err}
 use Rattle.std.specs.Arc.{arc_value}
 use Rattle.fleet_jobs.specs.Answers.{Answer}
 use Rattle.fleet_jobs.specs.declared.order.Order.{Order}
@@ -27,10 +27,6 @@ has_at (suc (suc (suc (suc n)))) a b c d = false
 
 abbrev pub has_mirror : {M L0 L1 L2 L3 D : Type 0} {m : _} {r0 : _} {r1 : _} {r2 : _} {r3 : _} {g : _} → FleetShares M L0 L1 L2 L3 D m r0 r1 r2 r3 g → ℕ → Bool
 has_mirror s slot = has_at slot (is_some s.first) (is_some s.second) (is_some s.third) (is_some s.fourth)
-
--- which slots have one
-abbrev pub slots_of : {M L0 L1 L2 L3 D : Type 0} {m : _} {r0 : _} {r1 : _} {r2 : _} {r3 : _} {g : _} → FleetShares M L0 L1 L2 L3 D m r0 r1 r2 r3 g → List Bool
-slots_of s = has_mirror s 0 ∷ has_mirror s 1 ∷ has_mirror s 2 ∷ has_mirror s 3 ∷ []
 
 -- what the job of an order may answer: what it may on the mirror of its slot, and of no slot NoRepository (34)
 abbrev pub MayAnswer : {M L0 L1 L2 L3 D : Type 0} {m : _} {r0 : _} {r1 : _} {r2 : _} {r3 : _} {g : _} → FleetShares M L0 L1 L2 L3 D m r0 r1 r2 r3 g → Order → Answer → Type 0

@@ -8,8 +8,8 @@ use Rattle.node_base.specs.declared.refusal.Refusal.{Refusal}
 use Rattle.node_base.specs.declared.refusal.Refusal.TheVariants.{Failed, NoRepository}
 use Rattle.repo_core.specs.Repository.{head_of}
 use Rattle.repo_store.specs.Words.{revisions_of}
-use Rattle.sync_core.specs.declared.fault.SyncFault.TheVariants.{Other, OutOfMemory}
-use Rattle.fleet_shares.specs.Given.{IsAnswerAt, IsLeft}
+use Rattle.sync_core.specs.declared.fault.SyncFault.TheVariants.{Other}
+use Rattle.fleet_shares.specs.Given.{IsAnswerAt}
 use Rattle.fleet_shares.specs.Orders.{sync_order}
 use Rattle.fleet_shares.specs.Ran.{HasEnded}
 use Rattle.fleet_shares.specs.Stores.{store_at}
@@ -49,24 +49,23 @@ tells brought slot [] answers = []
 tells brought slot (s ∷ ss) [] = tell_next s (brought slot) None ∷ tells brought (slot + 1) ss []
 tells brought slot (s ∷ ss) (a ∷ more) = tell_next s (brought slot) (Some a) ∷ tells brought (slot + 1) ss more
 
--- what may be told of a mirror by how it stands in the end: its refusal; or that revision once its order's job has run well, or why that
--- was refused; or that it failed (32), where no worker was left for it, or its job has run well and it wasn't brought up; or that memory
--- ran out (70)
-abbrev pub IsTold : {D : Type 0} → Ghosts D → Order → Result ℕ Refusal → Answer → Type 0
-IsTold g order (Err e) answer = answer ≡ Err (Other e)
-IsTold g order (Ok head) (Ok n) = HasEnded g order (Ok n) × (n ≡ head)
-IsTold g order (Ok head) (Err f) = HasEnded g order (Err f) ⊎ ((f ≡ Other Failed) × (IsLeft order ⊎ HasEnded g order (Ok head))) ⊎ (f ≡ OutOfMemory)
+-- what may be told of a mirror by how it stands in the end: its refusal; or that revision once its order's job has run well and has
+-- brought it up; or why that was refused; or that it failed (32), where its job has run well and hasn't brought it up
+abbrev pub IsTold : {D : Type 0} → Ghosts D → (Bool → Type 0) → Order → Result ℕ Refusal → Answer → Type 0
+IsTold g Judged order (Err e) answer = answer ≡ Err (Other e)
+IsTold g Judged order (Ok head) (Ok n) = HasEnded g order (Ok n) × (n ≡ head) × Judged true
+IsTold g Judged order (Ok head) (Err f) = HasEnded g order (Err f) ⊎ ((f ≡ Other Failed) × HasEnded g order (Ok head) × Judged false)
 
--- one answer for each, where the order of a mirror is that of its slot, from this one on
-abbrev pub AreTold : {D : Type 0} → Ghosts D → ℕ → List (Result ℕ Refusal) → List Answer → Type 0
-AreTold g slot [] [] = Unit {0}
-AreTold g slot [] (a ∷ more) = ⊥
-AreTold g slot (s ∷ ss) [] = ⊥
-AreTold g slot (s ∷ ss) (a ∷ more) = IsTold g (sync_order slot) s a × AreTold g (slot + 1) ss more
+-- one answer for each, where the order of a mirror is that of its slot, from this one on, and by whether each slot's mirror was brought up
+abbrev pub AreTold : {D : Type 0} → Ghosts D → (ℕ → Bool → Type 0) → ℕ → List (Result ℕ Refusal) → List Answer → Type 0
+AreTold g Judged slot [] [] = Unit {0}
+AreTold g Judged slot [] (a ∷ more) = ⊥
+AreTold g Judged slot (s ∷ ss) [] = ⊥
+AreTold g Judged slot (s ∷ ss) (a ∷ more) = IsTold g (Judged slot) (sync_order slot) s a × AreTold g Judged (slot + 1) ss more
 
 -- the answer of an order, by whether its slot has a store
 abbrev pub IsAnswerOver : {D : Type 0} {g : _} → FleetStores D g → Order → Answer → Type 0
-IsAnswerOver {g = g} stores order answer = IsAnswerAt (is_some (store_at stores order.mirror)) (HasEnded g order answer) order answer
+IsAnswerOver {g = g} stores order answer = IsAnswerAt (is_some (store_at stores order.mirror)) (HasEnded g order answer) answer
 
 -- a mirror's store where there was one
 abbrev pub SameSlots : {D : Type 0} {g : _} → FleetStores D g → FleetStores D g → Type 0

@@ -1,68 +1,126 @@
 //! Orders that are given to a fleet, and the answer of each.
-ghost use Rattle.std.specs.Prelude.{◌≡◌, ◌≤◌, [], map, vec_len, vec_capacity};
+ghost use Rattle.std.specs.Prelude.{◌≡◌, ◌++◌, ◌∷◌, [], map, vec_len, IfOk};
 ghost use Rattle.std.specs.List.{AllZip};
-ghost use Rattle.fleet_shares.specs.Faults.{sync_fault};
-ghost use Rattle.fleet_shares.specs.Given.{IsAnswered, IsNoted, accepted_of, answers_of, note_of, outcomes_in};
+ghost use Rattle.std.specs.Vec.Iter.{into_iter_items};
+ghost use Rattle.fleet_shares.specs.Given.{AreAnswers, HasRoom, IsAnswered, IsDue, IsPaid};
+ghost use Rattle.fleet_shares.specs.Given.{accepted_if, behind, outcomes_in, settled, waiting_in};
 
-use fleet_jobs::{Fleet, FleetFault, Order, Outcome, Refused, Runner, Unfinished};
-use node_base::{Refusal, RevNo};
+use fleet_jobs::{Fleet, Order, Outcome, Runner, Unfinished};
+use node_base::RevNo;
+use std::alloc::{AllocError, Global};
 use std::sync::Wait;
 use std::thread::Threads;
+use std::vec::IntoIter;
 use sync_core::SyncFault;
 
-/// What comes of an order: the mirror's newest revision after its job, or why it wasn't run or was refused.
+/// What comes of an order: the mirror's newest revision after its job, or why it was refused.
 pub type Answered = Result<RevNo, SyncFault>;
 
-/// Gives orders to a fleet, waits until each has ended, and answers each in its place: what its job answers, which its
-/// runner says; or NoRepository (34) where its slot has no mirror; or Failed (32) where no worker was left for it, or
-/// OutOfMemory (70). The room of `notes` and `answers`, which are empty, is made before, so that it takes no memory but
-/// the fleet's.
+/// What there is of an order: it waits for what a worker makes of it, or its job has ended.
+#[derive(Drop)]
+pub enum Due {
+    Waits(Order),
+    Ended(Answered),
+}
+
+/// Gives orders to a fleet, waits until each has ended, and answers each in its place by what its job answers. The job of
+/// an order that the fleet doesn't accept, or that no worker takes, is run here, at `own`. `dues` and `answers` are empty,
+/// and their room is made before.
 pub fn answer_all<R: Threads + Wait, J: Runner>(
     rt: &R,
+    alloc: Global,
     fleet: Fleet<J>,
+    own: &J,
     orders: Vec<Order>,
-    notes: Vec<Option<FleetFault>>,
+    dues: Vec<Due>,
     answers: Vec<Answered>,
 ) -> Vec<Answered>
     requires given { fleet.accepted ≡ [] }
-    requires notes { (notes.items ≡ []) × (vec_len orders ≤ vec_capacity notes) }
-    requires answers { (answers.items ≡ []) × (vec_len orders ≤ vec_capacity answers) }
-    ensures { AllZip (IsAnswered (J.may_answer fleet.runner) fleet.slots) orders.items result.items }
+    requires dues { HasRoom dues (vec_len orders) }
+    requires answers { HasRoom answers (vec_len orders) }
+    ensures { AllZip (IsAnswered (J.may_answer fleet.runner) (J.may_answer own.now)) orders.items result.items }
 {
     let mut fleet = fleet;
-    let notes = give_all(rt, &mut fleet, orders, notes);
-    gather(notes, outcomes_of(fleet.finish(rt)), answers)
+    let dues = give_all(rt, alloc, &mut fleet, own, orders, dues);
+    gather(rt, own, dues, outcomes_of(fleet.finish(rt)), answers)
 }
 
-// Gives each order, and notes why one isn't accepted.
+// Gives each order.
 fn give_all<R: Wait, J: Runner>(
     rt: &R,
+    alloc: Global,
     fleet: &mut Fleet<J>,
+    own: &J,
     orders: Vec<Order>,
-    notes: Vec<Option<FleetFault>>,
-) -> Vec<Option<FleetFault>>
+    dues: Vec<Due>,
+) -> Vec<Due>
     requires given { fleet.old.accepted ≡ [] }
-    requires notes { (notes.items ≡ []) × (vec_len orders ≤ vec_capacity notes) }
-    ensures noted { AllZip (IsNoted fleet.old.slots) orders.items result.items }
-    ensures accepted { map (λ t. t.order) fleet.new.accepted ≡ accepted_of orders.items result.items }
-    ensures same { (fleet.new.runner ≡ fleet.old.runner) × (fleet.new.slots ≡ fleet.old.slots) }
+    requires dues { HasRoom dues (vec_len orders) }
+    ensures due { AllZip (IsDue (J.may_answer own.now)) orders.items result.items }
+    ensures accepted { map (λ t. t.order) fleet.new.accepted ≡ waiting_in result.items }
+    ensures same { fleet.new.runner ≡ fleet.old.runner }
     ensures count { vec_len result ≡ vec_len orders }
 {
-    let mut notes = notes;
+    let mut dues = dues;
     for order in orders {
-        notes.push_reserved(note_of(fleet.give(rt, order)));
+        dues.push_reserved(give_one(rt, alloc, fleet, own, order));
     }
-    notes
+    dues
 }
 
-// Why an order isn't accepted.
-fn note_of(given: Result<u64, Refused>) -> Option<FleetFault>
-    ensures { result ≡ note_of given }
+// Gives an order, or runs its job where it isn't accepted.
+fn give_one<R: Wait, J: Runner>(
+    rt: &R,
+    alloc: Global,
+    fleet: &mut Fleet<J>,
+    own: &J,
+    order: Order,
+) -> Due
+    ensures due { IsDue (J.may_answer own.now) order result }
+    ensures accepted { map (λ t. t.order) fleet.new.accepted
+        ≡ map (λ t. t.order) fleet.old.accepted ++ waiting_in (result ∷ []) }
+    ensures same { fleet.new.runner ≡ fleet.old.runner }
 {
-    match given {
-        Ok(_number) => None,
-        Err(refused) => Some(refused.fault),
+    if is_given(rt, alloc, fleet, &order) {
+        return Due::Waits(order);
     }
+    Due::Ended(own.run(rt, &order))
+}
+
+// Gives an order that stays here too, and says whether it is accepted.
+fn is_given<R: Wait, J: Runner>(rt: &R, alloc: Global, fleet: &mut Fleet<J>, order: &Order) -> bool
+    ensures accepted { map (λ t. t.order) fleet.new.accepted
+        ≡ map (λ t. t.order) fleet.old.accepted ++ accepted_if result order.now }
+    ensures same { fleet.new.runner ≡ fleet.old.runner }
+{
+    match copied(alloc, order) {
+        Ok(order) => is_accepted(rt, fleet, order),
+        Err(_) => false,
+    }
+}
+
+// Gives an order, and says whether it is accepted.
+fn is_accepted<R: Wait, J: Runner>(rt: &R, fleet: &mut Fleet<J>, order: Order) -> bool
+    ensures accepted { map (λ t. t.order) fleet.new.accepted
+        ≡ map (λ t. t.order) fleet.old.accepted ++ accepted_if result order }
+    ensures same { fleet.new.runner ≡ fleet.old.runner }
+{
+    match fleet.give(rt, order) {
+        Ok(_number) => true,
+        Err(_refused) => false,
+    }
+}
+
+// An order once more.
+fn copied(alloc: Global, order: &Order) -> Result<Order, AllocError>
+    ensures { IfOk result (λ o. o ≡ order.now) }
+{
+    let token = order.token.copy(alloc)?;
+    Ok(Order {
+        mirror: order.mirror,
+        work: order.work,
+        token,
+    })
 }
 
 // The outcomes of a fleet, or those of the first orders.
@@ -78,37 +136,45 @@ fn outcomes_of(ended: Result<Vec<Outcome>, Unfinished>) -> Vec<Outcome>
     }
 }
 
-// The answers, by what was noted of each order and the outcomes of those that were accepted, in order.
-fn gather(
-    notes: Vec<Option<FleetFault>>,
+// The answers, by the outcomes of the orders that wait, in order. The jobs of those that have none are run.
+fn gather<R: Wait, J: Runner>(
+    rt: &R,
+    own: &J,
+    dues: Vec<Due>,
     outcomes: Vec<Outcome>,
     answers: Vec<Answered>,
 ) -> Vec<Answered>
-    requires { (answers.items ≡ []) × (vec_len notes ≤ vec_capacity answers) }
-    ensures { result.items ≡ answers_of notes.items outcomes.items }
+    requires { HasRoom answers (vec_len dues) }
+    ensures { AreAnswers (J.may_answer own.now) dues.items outcomes.items result.items }
 {
     let mut answers = answers;
     let mut rest = outcomes.into_iter();
-    for note in notes {
-        let answer = match note {
-            Some(fault) => Err(sync_fault(fault)),
-            None => match rest.next() {
-                Some(outcome) => outcome.result,
-                None => Err(SyncFault::Other(Refusal::Failed)),
-            },
-        };
-        answers.push_reserved(answer);
+    for due in dues {
+        answers.push_reserved(pay(rt, own, settled(due, &mut rest)));
     }
     answers
 }
 
-// What a fleet's refusal is to who gave the order.
-fn sync_fault(fault: FleetFault) -> SyncFault
-    ensures { result ≡ sync_fault fault }
+// An order that waits is settled by the next outcome, where there is one.
+fn settled(due: Due, rest: &mut IntoIter<Outcome>) -> Due
+    ensures due { result ≡ settled due (into_iter_items rest.old) }
+    ensures rest { into_iter_items rest.new ≡ behind due (into_iter_items rest.old) }
 {
-    match fault {
-        FleetFault::Failed => SyncFault::Other(Refusal::Failed),
-        FleetFault::NoRepository => SyncFault::Other(Refusal::NoRepository),
-        FleetFault::OutOfMemory => SyncFault::OutOfMemory,
+    match due {
+        Due::Waits(order) => match rest.next() {
+            Some(outcome) => Due::Ended(outcome.result),
+            None => Due::Waits(order),
+        },
+        Due::Ended(answer) => Due::Ended(answer),
+    }
+}
+
+// What an order's job has answered. That of one that waits is run.
+fn pay<R: Wait, J: Runner>(rt: &R, own: &J, due: Due) -> Answered
+    ensures { IsPaid (J.may_answer own.now) due result }
+{
+    match due {
+        Due::Waits(order) => own.run(rt, &order),
+        Due::Ended(answer) => answer,
     }
 }

@@ -1,10 +1,10 @@
 //! Mirrors that are brought up to a master at once.
-ghost use Rattle.std.specs.Prelude.{◌≡◌, ℕ, IfErr, IfOk, IfSome, Ok, is_some, true};
+ghost use Rattle.std.specs.Prelude.{◌≡◌, ℕ, IfErr, IfOk, IfSome, Ok, is_some};
 ghost use Rattle.std.specs.Arc.{arc_value};
 ghost use Rattle.std.specs.List.{AllZip};
 ghost use Rattle.mirror_share.specs.Names.{IsNamed};
 ghost use Rattle.store_share.specs.Opened.{cells_of};
-ghost use Rattle.fleet_shares.specs.Closing.{brings_at, AreBroughtUp, IsBroughtIn, IsBroughtUp};
+ghost use Rattle.fleet_shares.specs.Closing.{brings_at, IsBroughtIn, IsJudged};
 ghost use Rattle.fleet_shares.specs.Opening.{HasStores};
 ghost use Rattle.fleet_shares.specs.Ran.{IsAnswerIn};
 ghost use Rattle.fleet_shares.specs.Told.{stands, AreTold, IsAnswerOver, SameSlots};
@@ -29,9 +29,10 @@ use store_share::RowName;
 
 /// Brings each mirror up to the master by an order of its own, by that many workers, each a thread, and answers each in
 /// its place: the newest revision of its store as it comes back, or why its job was refused. The mirror of a place is the
-/// store of the slot with its number; where `refusals` has a refusal in a place, that is its answer. Failed (32) where no
-/// worker was left for it, or its store has more than its job brought, OutOfMemory (70). The stores come back. Only want of
-/// memory (70), that of a thread among it, refuses the whole, before any order is run.
+/// store of the slot with its number; where `refusals` has a refusal in a place, that is its answer. Failed (32) where its
+/// job ended well and its store has a revision besides that isn't the master's. The job of a mirror for which no worker is
+/// left is run here. The stores come back. Only want of memory (70), that of a thread among it, refuses the whole, before
+/// any order is run.
 ///
 /// Each mirror that is answered with a number has what it had, and besides revisions of the master's as it comes back, up
 /// to that number; where all that it had was the master's, all that it has is.
@@ -48,9 +49,8 @@ pub fn run_fleet<
     gate: G,
 ) -> (FleetStores<D>, Result<Vec<Answered>, AllocError>)
     ensures slots { SameSlots stores result.0 }
-    ensures answers { IfOk result.1 (λ answers. AreTold D.Disk 0 (stands 0 refusals.items result.0)
-        answers.items) }
-    ensures brought { IfOk result.1 (λ answers. AreBroughtUp stores result.0 answers.items) }
+    ensures answers { IfOk result.1 (λ answers. AreTold D.Disk (IsJudged stores result.0) 0
+        (stands 0 refusals.items result.0) answers.items) }
 {
     let count = refusals.len();
     let orders = match sync_orders(alloc, count) {
@@ -89,7 +89,7 @@ fn run_orders<
 ) -> (FleetStores<D>, Ran)
     ensures slots { SameSlots stores result.0 }
     ensures answers { IfOk result.1 (λ ran. AllZip (IsAnswerOver stores) orders.items ran.0.items) }
-    ensures brought { IfOk result.1 (λ ran. (slot : ℕ) → brings_at ran.1 slot ≡ true → IsBroughtUp stores result.0 slot) }
+    ensures brought { IfOk result.1 (λ ran. (slot : ℕ) → IsJudged stores result.0 slot (brings_at ran.1 slot)) }
 {
     match opened_fleet(alloc, stores) {
         Ok(opened) => run_opened::<R, Brand, Brand, Brand, Brand, Brand, D, G>(
@@ -126,14 +126,14 @@ fn run_opened<
         (is_some opened.fourth) result.0 }
     ensures answers { IfOk result.1 (λ ran.
         AllZip (IsAnswerIn M.RowName L0.RowName L1.RowName L2.RowName L3.RowName opened) orders.items ran.0.items) }
-    ensures first { IfOk result.1 (λ ran. IsBroughtIn ran.1.first opened.master opened.first result.0.master
-        result.0.first) }
-    ensures second { IfOk result.1 (λ ran. IsBroughtIn ran.1.second opened.master opened.second result.0.master
-        result.0.second) }
-    ensures third { IfOk result.1 (λ ran. IsBroughtIn ran.1.third opened.master opened.third result.0.master
-        result.0.third) }
-    ensures fourth { IfOk result.1 (λ ran. IsBroughtIn ran.1.fourth opened.master opened.fourth result.0.master
-        result.0.fourth) }
+    ensures first { IfOk result.1 (λ ran. IsBroughtIn M.RowName L0.RowName ran.1.first opened.master opened.first
+        result.0.master result.0.first) }
+    ensures second { IfOk result.1 (λ ran. IsBroughtIn M.RowName L1.RowName ran.1.second opened.master opened.second
+        result.0.master result.0.second) }
+    ensures third { IfOk result.1 (λ ran. IsBroughtIn M.RowName L2.RowName ran.1.third opened.master opened.third
+        result.0.master result.0.third) }
+    ensures fourth { IfOk result.1 (λ ran. IsBroughtIn M.RowName L3.RowName ran.1.fourth opened.master opened.fourth
+        result.0.master result.0.fourth) }
 {
     let (shares, readers) = FleetShares::<M, L0, L1, L2, L3, D>::with_readers(alloc, opened);
     match shared(alloc, shares, readers) {

@@ -1,17 +1,15 @@
 //! The job of an order on one mirror.
 ghost use Rattle.std.specs.Prelude.{[], ◌≡◌, None, Ok, Err, IfOk, IfErr, OnErr};
 ghost use Rattle.fleet_shares.specs.Answers.{Answers, AnswersOn, EndsAs, IsSeen};
-ghost use Rattle.fleet_shares.specs.Heard.{NotesOf};
 ghost use Rattle.fleet_shares.specs.Jobs.{EndsBy, IsRunOf};
 ghost use Rattle.mirror_share.specs.Seats.{hand_of};
 ghost use Rattle.sync_core.specs.declared.fault.SyncFault.TheVariants as fault;
 ghost use Rattle.sync_job.specs.Questions.{KeepsAnswers};
 ghost use Rattle.sync_job.specs.Telling.{KeepsTelling};
-ghost use Rattle.sync_job.specs.Words.{calls_of, master_of, mirror_of, report_of};
+ghost use Rattle.sync_job.specs.Words.{calls_of, master_of, mirror_of};
 
-use crate::heard::Heard;
 use crate::master::SharedMaster;
-use crate::trail::{Trail, TrailSlot, leave_trail};
+use crate::unheard::Unheard;
 use fleet_disk::Disk;
 use fleet_jobs::{Order, Work};
 use mirror_share::{JobSeat, MirrorName, MirrorShare, SeatMirror};
@@ -20,7 +18,7 @@ use std::alloc::Global;
 use std::sync::Wait;
 use store_share::{MasterShare, RowName};
 use sync_core::{SyncFault, Token};
-use sync_job::{JobPorts, MasterPort, MirrorPort, Report, run_copy_revprops, run_sync};
+use sync_job::{JobPorts, MasterPort, MirrorPort, run_copy_revprops, run_sync};
 
 /// Runs the job of an order on the mirror of a slot. NoRepository (34) where the slot is empty.
 pub(crate) fn run_in<R: Wait, M: RowName, L: MirrorName, D: Disk>(
@@ -28,35 +26,32 @@ pub(crate) fn run_in<R: Wait, M: RowName, L: MirrorName, D: Disk>(
     alloc: Global,
     master: &MasterShare<M, D>,
     mirror: &Option<MirrorShare<L, D>>,
-    slot: &TrailSlot<M, L>,
     order: &Order,
 ) -> Result<RevNo, SyncFault>
     ensures { AnswersOn master.now mirror.now order.now result }
 {
     match mirror {
-        Some(mirror) => run_on(rt, alloc, master, mirror, slot, order),
+        Some(mirror) => run_on(rt, alloc, master, mirror, order),
         None => Err(SyncFault::Other(Refusal::NoRepository)),
     }
 }
 
 // Runs the job of an order on a mirror, and answers the mirror's newest revision after it. The job enters, and leaves
-// whatever it answers, and with it its trail. HolderRunning (55) where a job of its token runs there, OutOfMemory (70), or
-// the refusal at which the job ended.
+// whatever it answers. HolderRunning (55) where a job of its token runs there, OutOfMemory (70), or the refusal at which
+// the job ended.
 fn run_on<R: Wait, M: RowName, L: MirrorName, D: Disk>(
     rt: &R,
     alloc: Global,
     master: &MasterShare<M, D>,
     mirror: &MirrorShare<L, D>,
-    slot: &TrailSlot<M, L>,
     order: &Order,
 ) -> Result<RevNo, SyncFault>
     ensures { Answers master.now mirror.now order.now result }
 {
     let mut reader = mirror.enter_reader(rt, alloc)?;
     let seat = mirror.enter_job(rt, alloc, &order.token)?;
-    let (seat, ended, trail) = run_seated(rt, alloc, master, mirror, seat, order);
+    let (seat, ended) = run_seated(rt, alloc, master, mirror, seat, order);
     mirror.leave(rt, seat);
-    leave_trail(rt, slot, trail);
     match ended {
         Ok(()) => Ok(mirror.latest(rt, &mut reader)),
         Err(fault) => Err(fault),
@@ -71,30 +66,28 @@ fn run_seated<R: Wait, M: RowName, L: MirrorName, D: Disk>(
     mirror: &MirrorShare<L, D>,
     seat: JobSeat<L>,
     order: &Order,
-) -> (JobSeat<L>, Result<(), SyncFault>, Option<Trail<M, L>>)
+) -> (JobSeat<L>, Result<(), SyncFault>)
     requires { hand_of seat ≡ None }
     ensures { EndsAs master.now mirror.now order.now result.1 }
 {
     let mirror = match SeatMirror::new(rt, alloc, mirror, seat) {
         Ok(mirror) => mirror,
-        Err(seat) => return (seat, Err(SyncFault::OutOfMemory), None),
+        Err(seat) => return (seat, Err(SyncFault::OutOfMemory)),
     };
     let Ok(master) = SharedMaster::new(rt, alloc, master) else {
-        return (mirror.into_seat(), Err(SyncFault::OutOfMemory), None);
+        return (mirror.into_seat(), Err(SyncFault::OutOfMemory));
     };
-    let mut ports = JobPorts::new(alloc, master, mirror, Heard::new());
+    let mut ports = JobPorts::new(alloc, master, mirror, Unheard);
     let ended = run_work(alloc, &mut ports, order);
-    let (master, mirror, heard) = ports.into_parts();
-    let (seat, reader) = mirror.into_seats();
-    let trail = Trail::of(master.into_seat(), reader, heard);
-    (seat, ended, Some(trail))
+    let (_master, mirror, _report) = ports.into_parts();
+    (mirror.into_seat(), ended)
 }
 
 // Runs the job of an order over ports through which nothing was said yet. What is said from then on tells each call that
 // the mirror is asked, and each question to the master.
 fn run_work<M: MasterPort + Drop, N: MirrorPort + Drop>(
     alloc: Global,
-    ports: &mut JobPorts<M, N, Heard>,
+    ports: &mut JobPorts<M, N, Unheard>,
     order: &Order,
 ) -> Result<(), SyncFault>
     requires { calls_of ports.old ≡ [] }
@@ -103,7 +96,6 @@ fn run_work<M: MasterPort + Drop, N: MirrorPort + Drop>(
         (calls_of ports.new) }
     ensures answered { KeepsAnswers M.answered (master_of ports.old) (master_of ports.new) (calls_of ports.old)
         (calls_of ports.new) }
-    ensures heard { NotesOf (report_of ports.new) (report_of ports.old) (calls_of ports.new) }
 {
     match order.token.copy(alloc) {
         Ok(token) => run_under(alloc, ports, order.work, token),
@@ -114,7 +106,7 @@ fn run_work<M: MasterPort + Drop, N: MirrorPort + Drop>(
 // The same under the order's token.
 fn run_under<M: MasterPort + Drop, N: MirrorPort + Drop>(
     alloc: Global,
-    ports: &mut JobPorts<M, N, Heard>,
+    ports: &mut JobPorts<M, N, Unheard>,
     work: Work,
     token: Token,
 ) -> Result<(), SyncFault>
@@ -124,7 +116,6 @@ fn run_under<M: MasterPort + Drop, N: MirrorPort + Drop>(
         (calls_of ports.new) }
     ensures answered { KeepsAnswers M.answered (master_of ports.old) (master_of ports.new) (calls_of ports.old)
         (calls_of ports.new) }
-    ensures heard { NotesOf (report_of ports.new) (report_of ports.old) (calls_of ports.new) }
 {
     match work {
         Work::Sync { steal } => run_sync(alloc, ports, token, steal),

@@ -13,11 +13,12 @@
 //! let stores = stores_of(rt, shares);
 //! ```
 //!
-//! [`run_shared`] does this for a list of orders, and answers each by its own answer; [`stores_of`] closes the shares.
+//! [`run_shared`] does this for a list of orders, and answers each by its own answer: who calls it runs the jobs for which
+//! no worker is left. [`stores_of`] closes the shares.
 //! [`run_fleet`] does all of it for an order a mirror, from stores to what is told of each.
 #![tactic(auto)]
 
-pub use answers::{Answered, answer_all};
+pub use answers::{Answered, Due, answer_all};
 pub use fleet::run_fleet;
 pub use lines::{answer_lines, are_done, refuse_at};
 pub use master::SharedMaster;
@@ -31,8 +32,8 @@ pub use unheld::Unheld;
 mod answers;
 mod brings;
 mod closing;
+mod compared;
 mod fleet;
-mod heard;
 mod job;
 mod lines;
 mod master;
@@ -40,8 +41,9 @@ mod opening;
 mod orders;
 mod run;
 mod runner;
+mod same;
 mod shares;
 mod stores;
 mod told;
-mod trail;
+mod unheard;
 mod unheld;

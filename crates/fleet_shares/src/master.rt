@@ -32,7 +32,7 @@ pub struct SharedMaster<'a, R: Wait, L: RowName, D: Disk> {
 }
 
 impl<'a, R: Wait, L: RowName, D: Disk> SharedMaster<'a, R, L, D> {
-    ghost use Rattle.fleet_shares.specs.Ports.{seat_of, share_of};
+    ghost use Rattle.fleet_shares.specs.Ports.{share_of};
 
     /// The port over a share, whose seat has seen what is shown now. Only want of memory (70) refuses it.
     pub fn new(
@@ -47,13 +47,6 @@ impl<'a, R: Wait, L: RowName, D: Disk> SharedMaster<'a, R, L, D> {
             share,
             seat: share.enter_reader(rt, alloc)?,
         })
-    }
-
-    /// The seat of its reader, who has seen all that it told of revisions.
-    pub fn into_seat(self) -> ReaderSeat<L>
-        ensures { result ≡ seat_of self.entry }
-    {
-        self.seat
     }
 }
 

@@ -2,9 +2,8 @@
 ghost use Rattle.std.specs.Prelude.{◌≡◌, IfOk, is_some};
 ghost use Rattle.std.specs.List.{AllZip};
 ghost use Rattle.std.specs.Arc.{arc_value};
-ghost use Rattle.fleet_shares.specs.Given.{IsAnswered};
 ghost use Rattle.fleet_shares.specs.Opening.{HasStores};
-ghost use Rattle.fleet_shares.specs.Runners.{slots_of, MayAnswer};
+ghost use Rattle.fleet_shares.specs.Runners.{MayAnswer};
 
 use crate::answers::{Answered, answer_all};
 use crate::runner::SharesRunner;
@@ -20,8 +19,9 @@ use std::thread::Threads;
 use store_share::RowName;
 
 /// Runs orders over shares by that many workers, each a thread, and answers each in its place: the mirror's newest
-/// revision after its job, or why it was refused. NoRepository (34) where its slot is empty, Failed (32) where no worker
-/// was left for it. Only want of memory (70), that of a thread among it, refuses the whole, before any order is run.
+/// revision after its job, or why it was refused, NoRepository (34) where its slot is empty. The job of an order for which
+/// no worker is left is run here. Only want of memory (70), that of a thread among it, refuses the whole, before any order
+/// is run.
 pub fn run_shared<
     R: Threads + Wait + Clone + Send + Drop + 'static,
     M: RowName + Send + Sync + 'static,
@@ -39,14 +39,14 @@ pub fn run_shared<
     workers: usize,
     gate: G,
 ) -> Result<Vec<Answered>, AllocError>
-    ensures { IfOk result (λ answers. AllZip (IsAnswered (MayAnswer (arc_value shares.now))
-        (slots_of (arc_value shares.now))) orders.items answers.items) }
+    ensures { IfOk result (λ answers. AllZip (MayAnswer (arc_value shares.now)) orders.items answers.items) }
 {
-    let notes = Vec::with_capacity(alloc, orders.len())?;
+    let dues = Vec::with_capacity(alloc, orders.len())?;
     let answers = Vec::with_capacity(alloc, orders.len())?;
+    let own = SharesRunner::new(alloc, Arc::try_clone(shares)?);
     let runner = SharesRunner::new(alloc, Arc::try_clone(shares)?);
     let fleet = Fleet::start(rt, alloc, runner, workers, gate)?;
-    Ok(answer_all(rt, fleet, orders, notes, answers))
+    Ok(answer_all(rt, alloc, fleet, &own, orders, dues, answers))
 }
 
 /// The stores of shares, once nobody else keeps them any more, as once their fleet is finished. Waits while somebody

@@ -70,38 +70,10 @@ impl<M: RowName, L0: MirrorName, L1: MirrorName, L2: MirrorName, L3: MirrorName,
     fn run<R: Wait>(&self, rt: &R, order: &Order) -> Result<RevNo, SyncFault> {
         let shares = &*self.shares;
         match order.mirror {
-            0 => run_in(
-                rt,
-                self.alloc,
-                &shares.master,
-                &shares.first,
-                &shares.trails.first,
-                order,
-            ),
-            1 => run_in(
-                rt,
-                self.alloc,
-                &shares.master,
-                &shares.second,
-                &shares.trails.second,
-                order,
-            ),
-            2 => run_in(
-                rt,
-                self.alloc,
-                &shares.master,
-                &shares.third,
-                &shares.trails.third,
-                order,
-            ),
-            3 => run_in(
-                rt,
-                self.alloc,
-                &shares.master,
-                &shares.fourth,
-                &shares.trails.fourth,
-                order,
-            ),
+            0 => run_in(rt, self.alloc, &shares.master, &shares.first, order),
+            1 => run_in(rt, self.alloc, &shares.master, &shares.second, order),
+            2 => run_in(rt, self.alloc, &shares.master, &shares.third, order),
+            3 => run_in(rt, self.alloc, &shares.master, &shares.fourth, order),
             _ => Err(SyncFault::Other(Refusal::NoRepository)),
         }
     }

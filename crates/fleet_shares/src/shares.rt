@@ -9,7 +9,6 @@ ghost use Rattle.fleet_shares.specs.Closing.{IsReadBy};
 use crate::brings::Brings;
 use crate::closing::{settled, stays};
 use crate::stores::{FleetStores, OpenedFleet};
-use crate::trail::Trails;
 use fleet_disk::Disk;
 use mirror_share::{MirrorName, MirrorShare, OpenedMirror};
 use repo_store::RepoStore;
@@ -32,7 +31,6 @@ pub struct FleetShares<
     pub second: Option<MirrorShare<L1, D>>,
     pub third: Option<MirrorShare<L2, D>>,
     pub fourth: Option<MirrorShare<L3, D>>,
-    pub(crate) trails: Trails<M, L0, L1, L2, L3>,
 }
 
 /// The seats of readers, who have seen all that was opened. None where there is no mirror.
@@ -118,7 +116,6 @@ impl<
                 second,
                 third,
                 fourth,
-                trails: Trails::new(),
             },
             all_read(
                 theirs,
@@ -141,7 +138,6 @@ impl<
             second,
             third,
             fourth,
-            trails: _,
         } = self;
         FleetStores {
             master: master.close().into_store(),
@@ -168,34 +164,13 @@ impl<
             second,
             third,
             fourth,
-            trails,
         } = self;
         let mut master = master.close();
         let stays = stays(&mut master, readers.master);
-        let (first, first_up) = settled(
-            &mut master,
-            first,
-            readers.first,
-            trails.first.into_inner(),
-        );
-        let (second, second_up) = settled(
-            &mut master,
-            second,
-            readers.second,
-            trails.second.into_inner(),
-        );
-        let (third, third_up) = settled(
-            &mut master,
-            third,
-            readers.third,
-            trails.third.into_inner(),
-        );
-        let (fourth, fourth_up) = settled(
-            &mut master,
-            fourth,
-            readers.fourth,
-            trails.fourth.into_inner(),
-        );
+        let (first, first_up) = settled(&master, first, readers.first);
+        let (second, second_up) = settled(&master, second, readers.second);
+        let (third, third_up) = settled(&master, third, readers.third);
+        let (fourth, fourth_up) = settled(&master, fourth, readers.fourth);
         (
             FleetStores {
                 master: master.into_store(),

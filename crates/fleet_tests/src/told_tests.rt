@@ -41,6 +41,12 @@ fn mirrors_are_brought_up(rt: HostRuntime) -> Result<(), Fail> {
     Ok(())
 }
 
+#[test]
+fn without_a_worker_who_gives_the_orders_runs_them(rt: HostRuntime) -> Result<(), Fail> {
+    assert!(rt; brings_up(&rt, rt.alloc(), 12, 0, &[12, 12]));
+    Ok(())
+}
+
 // Whether of two mirrors the second, which was never begun, is refused with 51, and the first brought up.
 fn tells_of_a_blank<R: Threads + Wait + Abort + Clone + Send + Drop + 'static>(
     rt: &R,
@@ -101,23 +107,11 @@ fn tells_of_a_gap<R: Threads + Wait + Abort + Clone + Send + Drop + 'static>(
     tells(rt, alloc, stores, refusals, 2, Unheld, &wanted, 1, 1)
 }
 
-// Whether without a worker each order has failed, and the stores come back as they were.
-fn tells_of_no_worker<R: Threads + Wait + Abort + Clone + Send + Drop + 'static>(
-    rt: &R,
-    alloc: Global,
-) -> bool {
-    let stores = fleet_of(rt, alloc, 1, 2);
-    let refusals = unrefused(rt, alloc, 2);
-    let wanted = [refused(32), refused(32)];
-    tells(rt, alloc, stores, refusals, 0, Unheld, &wanted, 2, 0)
-}
-
 #[test]
 fn refusals_are_told(rt: HostRuntime) -> Result<(), Fail> {
     assert!(rt; tells_of_a_blank(&rt, rt.alloc()));
     assert!(rt; tells_of_a_folder(&rt, rt.alloc()));
     assert!(rt; tells_of_a_gap(&rt, rt.alloc()));
-    assert!(rt; tells_of_no_worker(&rt, rt.alloc()));
     Ok(())
 }
 

@@ -1,5 +1,5 @@
 -- What stands at a folder of a revision.
-use Rattle.std.proofs.Common.{◌≡◌, ℕ, Bool, true, false, true≢false, ◌++◌, List, [], ◌∷◌, Option, Some, None, IsSomeAnd, IsNone, is_some, Result, refl, sym, ap, subst, ◌∙◌, cond}
+use Rattle.std.proofs.Common.{◌≡◌, ℕ, Bool, true, false, ◌++◌, List, Option, Some, None, IsSomeAnd, IsNone, is_some, Result, refl, sym, ap, subst, ◌∙◌, cond}
 use Rattle.std.specs.Option.{option_map, option_or}
 use Rattle.std.specs.FinMap as finite
 use Rattle.node_base.specs.Path.{Path}

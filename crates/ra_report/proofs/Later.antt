@@ -1,15 +1,12 @@
 -- Commands of a report one after another.
-use Rattle.std.proofs.Common.{◌≡◌, ℕ, zero, suc, ◌+◌, ◌≤◌, ◌<◌, List, [], ◌∷◌, map, drop, length, get_or, Option, Some, None, Result, refl, sym, ap, subst, ◌∙◌, arith}
+use Rattle.std.proofs.Common.{◌≡◌, ℕ, zero, suc, ◌+◌, ◌≤◌, ◌<◌, List, [], ◌∷◌, map, drop, length, get_or, Some, None, Result, refl, sym, ap, subst, ◌∙◌, arith}
 use Rattle.std.proofs.Math.Seq.{drop-cons}
-use Rattle.std.specs.Option.{option_or}
 use Rattle.node_base.specs.Path.{Path}
-use Rattle.tree_reports.specs.Applied.{Content}
 use Rattle.tree_reports.specs.Reports.{content_at}
 use Rattle.browse_wire.specs.Reports.{Report, report_as}
 use Rattle.browse_wire.specs.declared.report.ReportCommand.{ReportCommand}
 use Rattle.browse_wire.specs.Urls.{Url}
 use Rattle.repo_core.specs.Repository.{Repository}
-use Rattle.ra_browse.specs.declared.denial.Denial.{Denial}
 use Rattle.ra_browse.specs.declared.stop.Stop.{Stop}
 use Rattle.ra_browse.specs.Tellings.{Comes, MayStop}
 use Rattle.ra_report.specs.Plans.{IsCopy}
@@ -45,9 +42,9 @@ pub reported_comes : (x : Repository) (at : Url) (c : Report) (cs rs : List Repo
 reported_comes x at c cs rs k m l copy r e h d is later =
     subst (λ a. Comes k l (reports_denied x at a) (IsCopy (reported x at a) (base_of a)) r) (sym e)
     (
-      then_comes k m l (begin_denied x at.1 c) (later_denied x at (begin_known x at.1 c) cs) (λ v. ((q : Path) → content_at v.report q ≡ later_known x at (begin_known x at.1 c) cs q) × (v.base ≡ copy.base)) (IsCopy (reported x at (c ∷ cs)) (base_of (c ∷ cs))) r h d
-      (λ v i. record { report = i.0; base_is = ap (λ b. Some b) i.1 ∙ is.base_is })
-      (subst (λ k. Comes m l (later_denied x at k cs) (λ v. ((q : Path) → content_at v.report q ≡ later_known x at k cs q) × (v.base ≡ copy.base)) r) (same_known (content_at copy.report) (begin_known x at.1 c) is.report) later)
+    then_comes k m l (begin_denied x at.1 c) (later_denied x at (begin_known x at.1 c) cs) (λ v. ((q : Path) → content_at v.report q ≡ later_known x at (begin_known x at.1 c) cs q) × (v.base ≡ copy.base)) (IsCopy (reported x at (c ∷ cs)) (base_of (c ∷ cs))) r h d
+    (λ v i. record { report = i.0; base_is = ap (λ b. Some b) i.1 ∙ is.base_is })
+    (subst (λ k. Comes m l (later_denied x at k cs) (λ v. ((q : Path) → content_at v.report q ≡ later_known x at k cs q) × (v.base ≡ copy.base)) r) (same_known (content_at copy.report) (begin_known x at.1 c) is.report) later)
     )
 
 pub reported_stops : (x : Repository) (at : Url) (c : Report) (cs rs : List Report) (p n : ℕ) (s : Stop) → rs ≡ c ∷ cs → n ≤ n → MayStop p n (begin_denied x at.1 c) s → MayStop p n (reports_denied x at rs) s

@@ -1,5 +1,5 @@
 -- The plan of an edit, and what comes of it.
-use Rattle.std.proofs.Common.{◌≡◌, ℕ, suc, ◌≤◌, take, inl, inr, Bool, true, false, List, [], Option, Some, None, is_some, is_none, Result, Ok, Err, refl, sym, ap, subst, ◌∙◌, arith}
+use Rattle.std.proofs.Common.{◌≡◌, ℕ, suc, ◌≤◌, take, inl, inr, Bool, true, false, List, [], Option, Some, None, is_none, Result, Ok, Err, refl, sym, ap, subst, ◌∙◌, arith}
 use Rattle.std.specs.Prelude.{IfOk}
 use Rattle.std.specs.Option.{option_or}
 use Rattle.std.specs.FinMap as finite
@@ -23,7 +23,7 @@ use Rattle.ra_browse.specs.Tellings.{Comes, MayStop, TellsStop}
 use Rattle.ra_report.specs.Edits.{Edit, IsEdit, EditsIf, all_props, edit_told, report_denied}
 use Rattle.ra_report.specs.Finishing.{Finished, Finishes}
 use Rattle.ra_report.specs.Orders.{order_denied, wanted_denied, revision_of, place_of, IsOrder}
-use Rattle.ra_report.specs.Plans.{IsWanted, IsCopy, IsPlan, IsPlanOf, IsEditOf, TellsPlan}
+use Rattle.ra_report.specs.Plans.{IsWanted, IsPlan, IsPlanOf, IsEditOf, TellsPlan}
 use Rattle.ra_report.specs.Reports.{reports_denied, reported, base_of}
 use Rattle.ra_report.specs.declared.order.Order.{Order}
 use Rattle.ra_report.specs.declared.plan.Plan.{Plan}
@@ -36,8 +36,8 @@ pub plan_ordered : (x : Repository) (at : Url) (c : Ask) (rs : List Report) (o :
 plan_ordered x at c rs o k m r d i h =
     then_comes k k m (order_denied at c) (option_or (wanted_denied x (revision_of c) (place_of at c)) (reports_denied x at rs)) (IsPlan x at (revision_of c) (place_of at c) rs) (IsPlan x at (revision_of c) (place_of at c) rs) r (omega arith) d (λ p z. z)
     (
-      subst (λ p. Comes k m (option_or (wanted_denied x (revision_of c) p) (reports_denied x at rs)) (IsPlan x at (revision_of c) p rs) r) i.1
-      (subst (λ n. Comes k m (option_or (wanted_denied x n o.path) (reports_denied x at rs)) (IsPlan x at n o.path rs) r) i.0 h)
+    subst (λ p. Comes k m (option_or (wanted_denied x (revision_of c) p) (reports_denied x at rs)) (IsPlan x at (revision_of c) p rs) r) i.1
+    (subst (λ n. Comes k m (option_or (wanted_denied x n o.path) (reports_denied x at rs)) (IsPlan x at n o.path rs) r) i.0 h)
     )
 
 pub plan_wanted : (x : Repository) (at : Url) (n : Option ℕ) (p : Path) (rs : List Report) (w : Wanted) (k m l : ℕ) (r : Result Plan Stop) → k ≤ m → wanted_denied x n p ≡ None → IsWanted x n p w

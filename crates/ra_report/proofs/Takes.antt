@@ -1,5 +1,5 @@
 -- Paths that a report's commands set.
-use Rattle.std.proofs.Common.{◌≡◌, ℕ, Bool, true, false, not, ◌&&◌, List, [], ◌∷◌, ◌++◌, Option, Some, None, is_some, is_none, Result, Ok, Err, refl, sym, ap, subst, ◌∙◌, cond}
+use Rattle.std.proofs.Common.{◌≡◌, ℕ, Bool, true, false, not, ◌&&◌, [], ◌∷◌, Option, Some, None, is_some, is_none, Result, Ok, Err, refl, sym, ap, subst, ◌∙◌, cond}
 use Rattle.std.specs.Option.{option_map, option_map_or, option_or}
 use Rattle.std.specs.FinMap as finite
 use Rattle.node_base.specs.Path.{Path, same_path}
@@ -9,7 +9,7 @@ use Rattle.node_base.specs.declared.fault.TreeFault.TheVariants.{NoSuchPath, Not
 use Rattle.node_base.specs.declared.node.Node.{Node}
 use Rattle.path_tree.specs.Copies.{copy_too_long}
 use Rattle.dump_load.specs.Faults.{fault_if}
-use Rattle.tree_reports.specs.Applied.{Content, content}
+use Rattle.tree_reports.specs.Applied.{content}
 use Rattle.tree_reports.specs.Reports.{Answers, brought, content_at, due, placed, report_fault}
 use Rattle.tree_reports.specs.declared.error.ReportError.{ReportError}
 use Rattle.tree_reports.specs.declared.error.ReportError.TheVariants as error

@@ -1,5 +1,5 @@
 -- The path of another URL.
-use Rattle.std.proofs.Common.{◌≡◌, None, Result, Err}
+use Rattle.std.proofs.Common.{Result, Err}
 use Rattle.browse_wire.specs.Urls.{Url}
 use Rattle.browse_wire.specs.declared.url.UrlFault.{UrlFault}
 use Rattle.ra_browse.specs.declared.stop.Stop.{Stop}

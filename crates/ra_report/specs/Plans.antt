@@ -1,5 +1,5 @@
 -- What an edit is made of, as it is in code.
-use Rattle.std.specs.Prelude.{◌≡◌, ℕ, suc, take, List, [], ◌∷◌, ◌++◌, Option, Some}
+use Rattle.std.specs.Prelude.{◌≡◌, ℕ, suc, take, List, ◌++◌, Option, Some}
 use Rattle.std.specs.FinMap as finite
 use Rattle.std.specs.Io.KnownBytes.{Appends}
 use Rattle.node_base.specs.Path.{Path}

@@ -34,12 +34,7 @@ pub fn look_up<P: RepoPort>(
 }
 
 // The same of its tree.
-fn wanted_in(
-    alloc: Global,
-    number: RevNo,
-    tree: &Tree,
-    folder: &NodePath,
-) -> Result<Wanted, Stop>
+fn wanted_in(alloc: Global, number: RevNo, tree: &Tree, folder: &NodePath) -> Result<Wanted, Stop>
     ensures { Decides (dir_denied (finite.get tree.now folder.now))
         (λ w. (w.number ≡ number) × ((q : Path) → finite.get w.tree q ≡ finite.get tree.now (folder.now ++ q))) result }
 {

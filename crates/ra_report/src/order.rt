@@ -49,11 +49,7 @@ pub fn ordered(alloc: Global, place: &SessionUrl, command: &BrowseCommand) -> Re
 }
 
 /// The order that a command is.
-pub fn order_of(
-    alloc: Global,
-    place: &SessionUrl,
-    command: &BrowseCommand,
-) -> Result<Order, Stop>
+pub fn order_of(alloc: Global, place: &SessionUrl, command: &BrowseCommand) -> Result<Order, Stop>
     ensures { Decides (order_denied (place_as place.now) (ask_as command.now))
         (IsOrder (place_as place.now) (ask_as command.now)) result }
 {

@@ -34,14 +34,24 @@ const ROWS: [(&[u8], &[u8], &[u8], &[u8]); 18] = [
         b"( set-path ( 0: 3 true ) ) ",
         NO_REVISION,
     ),
-    (b"svn://h", NEWEST, b"( set-path ( 0: 4 false ) ) ", NO_REVISION),
+    (
+        b"svn://h",
+        NEWEST,
+        b"( set-path ( 0: 4 false ) ) ",
+        NO_REVISION,
+    ),
     (
         b"svn://h",
         NEWEST,
         b"( set-path ( 0: 3 false ) ) ( set-path ( 5:trunk 4 false ) ) ",
         NO_REVISION,
     ),
-    (b"svn://h/none", NEWEST, b"( set-path ( 0: 3 true ) ) ", NO_PATH),
+    (
+        b"svn://h/none",
+        NEWEST,
+        b"( set-path ( 0: 3 true ) ) ",
+        NO_PATH,
+    ),
     (
         b"svn://h/trunk/README",
         NEWEST,
@@ -49,7 +59,12 @@ const ROWS: [(&[u8], &[u8], &[u8], &[u8]); 18] = [
         NOT_DIR,
     ),
     // nothing is at the folder in the revision that is reported, or a file is
-    (b"svn://h/trunk/new", NEWEST, b"( set-path ( 0: 2 false ) ) ", NO_PATH),
+    (
+        b"svn://h/trunk/new",
+        NEWEST,
+        b"( set-path ( 0: 2 false ) ) ",
+        NO_PATH,
+    ),
     (
         b"svn://h/trunk/lib",
         b"( update ( ( 1 ) 0: true ) )",
@@ -57,8 +72,18 @@ const ROWS: [(&[u8], &[u8], &[u8], &[u8]); 18] = [
         NOT_DIR,
     ),
     (b"svn://h", NEWEST, b"", BAD_REPORT),
-    (b"svn://h", NEWEST, b"( set-path ( 5:trunk 3 false ) ) ", BAD_REPORT),
-    (b"svn://h", NEWEST, b"( delete-path ( 5:trunk ) ) ", BAD_REPORT),
+    (
+        b"svn://h",
+        NEWEST,
+        b"( set-path ( 5:trunk 3 false ) ) ",
+        BAD_REPORT,
+    ),
+    (
+        b"svn://h",
+        NEWEST,
+        b"( delete-path ( 5:trunk ) ) ",
+        BAD_REPORT,
+    ),
     (
         b"svn://h",
         NEWEST,
@@ -145,7 +170,11 @@ const ORDERS: [(&[u8], bool, u64); 10] = [
     (b"( status ( 0: false ) )", true, 200_007),
     (b"( switch ( ( ) 0: true 14:svn://h/a/b%20 ) )", true, 0),
     (b"( switch ( ( ) 0: true 9:svn://i/a ) )", true, 170_000),
-    (b"( diff ( ( ) 0: true false 10:http://h/a ) )", true, 170_000),
+    (
+        b"( diff ( ( ) 0: true false 10:http://h/a ) )",
+        true,
+        170_000,
+    ),
     (b"( get-latest-rev ( ) )", false, 200_007),
 ];
 

@@ -19,7 +19,11 @@ const CASE: Case<'static> = Case {
 
 // Whether a case is answered by an edit, or memory is wanting.
 fn is_edit<P: RepoPort>(alloc: Global, port: &mut P, case: &Case<'_>, edit: &[u8]) -> bool {
-    match answered(alloc, port, case, Vec::new(alloc)) {
+    // room for all that is told
+    let Ok(out) = Vec::with_capacity(alloc, 16_384) else {
+        return true;
+    };
+    match answered(alloc, port, case, out) {
         Ok((told, true)) => told.as_slice().strip_prefix(AUTHORISED) == Some(edit),
         Ok((told, false)) => told.as_slice() == NO_MEMORY,
         Err(fault) => fault == ServeFault::OutOfMemory,

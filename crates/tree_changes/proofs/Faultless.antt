@@ -1,5 +1,5 @@
 -- The changes that make one tree of another have no fault over it.
-use Rattle.std.proofs.Common.{◌≡◌, ℕ, Bool, true, false, true≢false, cond, not, ◌&&◌, ◌||◌, T, List, [], ◌∷◌, ◌++◌, Option, Some, None, IsSome, IsNone, IsSomeAnd, is_some, refl, sym, ap, subst, ◌∙◌, append_assoc}
+use Rattle.std.proofs.Common.{◌≡◌, Bool, true, false, true≢false, cond, not, ◌&&◌, ◌||◌, T, List, [], ◌∷◌, ◌++◌, Option, Some, None, IsSome, IsNone, IsSomeAnd, is_some, refl, sym, ap, subst, ◌∙◌, append_assoc}
 use Rattle.std.proofs.lemmas.Option.{same_Some}
 use Rattle.std.specs.Option.{option_map, option_map_or, option_or}
 use Rattle.std.specs.FinMap as finite
@@ -9,16 +9,14 @@ use Rattle.std.specs.declared.cmp.Ordering.TheVariants.{Less}
 use Rattle.node_base.specs.Path.{Name, Path, path_cmp, same_path}
 use Rattle.node_base.proofs.PathLemmas.{path_of_same, same_path_itself, before_below}
 use Rattle.node_base.specs.Tree.{PathMap, HasFronts, IsDirAt, IsTree, blocked, kind_of}
-use Rattle.node_base.specs.declared.fault.TreeFault.{TreeFault}
 use Rattle.node_base.specs.declared.fault.TreeFault.TheVariants.{BadPath, NoSuchPath, PathThere, NotDir, KindMismatch}
 use Rattle.node_base.specs.declared.node.Node.{Node}
 use Rattle.node_base.specs.declared.node.NodeKind.{NodeKind}
 use Rattle.node_base.specs.declared.node.NodeKind.TheVariants.{File, Dir}
 use Rattle.path_tree.specs.JoinedLemmas.{both_true, true_both, less_than}
 use Rattle.path_tree.proofs.Fronts.{fronts_all}
-use Rattle.dump_load.specs.declared.change.Change.{Change}
 use Rattle.dump_load.specs.Effect.{effect}
-use Rattle.dump_load.specs.Faults.{first_of, fault_if, fault_of, fault_after, fault, mismatches, is_file}
+use Rattle.dump_load.specs.Faults.{first_of, fault_if, fault_of, fault_after, fault, mismatches}
 use Rattle.dump_load.proofs.PathOrder.{greater_differs}
 use Rattle.tree_reports.specs.declared.difference.Parts.{Parts}
 use Rattle.tree_reports.specs.Applied.{Content, content, takes_below, goes_with, becomes, applied}

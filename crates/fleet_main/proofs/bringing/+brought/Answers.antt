@@ -1,4 +1,4 @@
-use Rattle.std.proofs.Common.{◌≡◌, ◌∷◌, ◌∙◌, [], None, length, map, string_bytes, ap, sym, subst, rules}
+use Rattle.std.proofs.Common.{◌≡◌, ◌∷◌, ◌∙◌, None, length, map, string_bytes, ap, sym, subst, rules}
 use Rattle.std.proofs.lemmas.List.{nil_from_length}
 use Rattle.command_words.specs.Twice.{first_twice}
 use Rattle.fleet_main.proofs.Brought.{brought_at, brought_none, brought_opened_at, brought_refused}
@@ -8,7 +8,7 @@ pub returns-in_default : goal.returns-in_default
 returns-in_default g t c =
     let none : length c.args.names.now ≡ 0 = search rules in
     brought_none g.F.Place.Disk g.F.Folders c.args.folders.now _ c.args.refusals.items c.args.stores c.run_fleet.result.0 c.run_fleet.result.1 (ap (map string_bytes) (nil_from_length c.args.names.now none)) c.run_fleet.ensures.slots
-    c.run_fleet.ensures.answers c.run_fleet.ensures.brought
+    c.run_fleet.ensures.answers
 
 pub returns-in-Ok : goal.returns-in-Ok
 returns-in-Ok g t c =

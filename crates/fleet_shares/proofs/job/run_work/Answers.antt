@@ -8,7 +8,6 @@ returns-in-Ok g c = record {
   ended = inl (subst (λ t. IsRunOf c.args.order.now.work t (calls_of c.run_under.new.ports) c.run_under.result) c.in-Ok.ensures c.run_under.ensures.ran);
   asked = c.run_under.ensures.asked;
   answered = c.run_under.ensures.answered;
-  heard = c.run_under.ensures.heard;
 }
 
 pub returns-in-Err : goal.returns-in-Err
@@ -16,5 +15,4 @@ returns-in-Err g c = record {
   ended = inr (refl, c.requires);
   asked = λ first base t. t;
   answered = λ first base t. t;
-  heard = λ n w. inl w;
 }

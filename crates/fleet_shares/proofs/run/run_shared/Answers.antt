@@ -22,5 +22,5 @@ start-requires-sync-J g c κs within =
 
 pub returns : goal.returns
 returns g c =
-    over_shares (arc_value c.args.shares.now) c.new-runner.result c.in_ok-fleet.fleet.runner c.in_ok-fleet.fleet.slots c.args.orders.items c.answer_all.result.items c.in_ok-fleet.ensures.runner
-    (c.new-runner.ensures ∙ c.in_ok-try_clone.ensures) c.in_ok-fleet.ensures.slots c.answer_all.ensures
+    over_shares (arc_value c.args.shares.now) c.new-runner.result c.in_ok-fleet.fleet.runner c.new-own.result c.args.orders.items c.answer_all.result.items c.in_ok-fleet.ensures.runner (c.new-runner.ensures ∙ c.in_ok-try_clone-2.ensures)
+    (c.new-own.ensures ∙ c.in_ok-try_clone.ensures) c.answer_all.ensures

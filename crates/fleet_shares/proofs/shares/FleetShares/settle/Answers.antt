@@ -1,4 +1,4 @@
-use Rattle.std.proofs.Common.{◌∙◌, refl}
+use Rattle.std.proofs.Common.{◌∙◌}
 use Rattle.store_share.specs.Book.{store_of}
 use Rattle.fleet_shares.proofs.Settling.{brought_after}
 use Rattle.fleet_shares.proofs.shares.FleetShares.settle.Goals as goal
@@ -6,19 +6,19 @@ use Rattle.fleet_shares.proofs.shares.FleetShares.settle.Goals as goal
 pub returns-clause-first : goal.returns-clause-first
 returns-clause-first g c =
     brought_after c.stays-stays.result c.settled-first.result.1 c.both.result c.args.readers.master c.args.readers.first (store_of c.close-master.result) (store_of c.stays-stays.new.book) c.into_store.result c.settled-first.result.0
-    c.both.ensures c.stays-stays.ensures.book (c.into_store.ensures ∙ (c.settled-fourth.ensures.master ∙ (c.settled-third.ensures.master ∙ (c.settled-second.ensures.master ∙ (c.settled-first.ensures.master ∙ c.stays-stays.ensures.book))))) c.stays-stays.ensures.stays c.settled-first.ensures.settled
+    c.both.ensures c.stays-stays.ensures.book (c.into_store.ensures ∙ c.stays-stays.ensures.book) c.stays-stays.ensures.stayed c.settled-first.ensures.settled
 
 pub returns-clause-second : goal.returns-clause-second
 returns-clause-second g c =
-    brought_after c.stays-stays.result c.settled-second.result.1 c.both-2.result c.args.readers.master c.args.readers.second (store_of c.close-master.result) (store_of c.settled-first.new.master) c.into_store.result c.settled-second.result.0
-    c.both-2.ensures (c.settled-first.ensures.master ∙ c.stays-stays.ensures.book) (c.into_store.ensures ∙ (c.settled-fourth.ensures.master ∙ (c.settled-third.ensures.master ∙ (c.settled-second.ensures.master ∙ (c.settled-first.ensures.master ∙ c.stays-stays.ensures.book))))) c.stays-stays.ensures.stays c.settled-second.ensures.settled
+    brought_after c.stays-stays.result c.settled-second.result.1 c.both-2.result c.args.readers.master c.args.readers.second (store_of c.close-master.result) (store_of c.stays-stays.new.book) c.into_store.result c.settled-second.result.0
+    c.both-2.ensures c.stays-stays.ensures.book (c.into_store.ensures ∙ c.stays-stays.ensures.book) c.stays-stays.ensures.stayed c.settled-second.ensures.settled
 
 pub returns-clause-third : goal.returns-clause-third
 returns-clause-third g c =
-    brought_after c.stays-stays.result c.settled-third.result.1 c.both-3.result c.args.readers.master c.args.readers.third (store_of c.close-master.result) (store_of c.settled-second.new.master) c.into_store.result c.settled-third.result.0
-    c.both-3.ensures (c.settled-second.ensures.master ∙ (c.settled-first.ensures.master ∙ c.stays-stays.ensures.book)) (c.into_store.ensures ∙ (c.settled-fourth.ensures.master ∙ (c.settled-third.ensures.master ∙ (c.settled-second.ensures.master ∙ (c.settled-first.ensures.master ∙ c.stays-stays.ensures.book))))) c.stays-stays.ensures.stays c.settled-third.ensures.settled
+    brought_after c.stays-stays.result c.settled-third.result.1 c.both-3.result c.args.readers.master c.args.readers.third (store_of c.close-master.result) (store_of c.stays-stays.new.book) c.into_store.result c.settled-third.result.0
+    c.both-3.ensures c.stays-stays.ensures.book (c.into_store.ensures ∙ c.stays-stays.ensures.book) c.stays-stays.ensures.stayed c.settled-third.ensures.settled
 
 pub returns-clause-fourth : goal.returns-clause-fourth
 returns-clause-fourth g c =
-    brought_after c.stays-stays.result c.settled-fourth.result.1 c.both-4.result c.args.readers.master c.args.readers.fourth (store_of c.close-master.result) (store_of c.settled-third.new.master) c.into_store.result c.settled-fourth.result.0
-    c.both-4.ensures (c.settled-third.ensures.master ∙ (c.settled-second.ensures.master ∙ (c.settled-first.ensures.master ∙ c.stays-stays.ensures.book))) (c.into_store.ensures ∙ (c.settled-fourth.ensures.master ∙ (c.settled-third.ensures.master ∙ (c.settled-second.ensures.master ∙ (c.settled-first.ensures.master ∙ c.stays-stays.ensures.book))))) c.stays-stays.ensures.stays c.settled-fourth.ensures.settled
+    brought_after c.stays-stays.result c.settled-fourth.result.1 c.both-4.result c.args.readers.master c.args.readers.fourth (store_of c.close-master.result) (store_of c.stays-stays.new.book) c.into_store.result c.settled-fourth.result.0
+    c.both-4.ensures c.stays-stays.ensures.book (c.into_store.ensures ∙ c.stays-stays.ensures.book) c.stays-stays.ensures.stayed c.settled-fourth.ensures.settled
