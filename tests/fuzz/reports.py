@@ -165,6 +165,8 @@ class Report:
 
     def edit(self):
         number = self.server.number(self.number)
+        if self.target and not self.server.AS_SVNSERVE:
+            return self.edit_of_target(number)
         wanted = self.server.part(self.wanted, number, not self.target)
         for it in self.said:
             self.take(*it)
@@ -172,6 +174,21 @@ class Report:
             raise Denied(165004)
         both = self.tree, self.followed(wanted, number)
         return Update(self, *(placed(ROOT, self.target, it) for it in both), number)
+
+    def edit_of_target(self, number):
+        """What is reported of a target stands in the folder that is wanted, so that nothing else differs."""
+        folder, front = self.server.part(self.server.place, number, True), self.target
+        path, _, self.base, _, _ = self.said[0][1] if self.said and self.said[0][0] == 'set-path' else [b'none', None, 0, False, b'']
+        if path:
+            raise Denied(165004)
+        self.server.number(self.base)
+        if not all(fits(front + params[0]) for _, params in self.said):
+            raise Denied(160013)
+        self.tree, self.target = folder, ()
+        for name, params in self.said:
+            self.take(name, [front + params[0], *params[1:]])
+        self.target = front
+        return Update(self, self.tree, folder, number)
 
     def followed(self, wanted, number):
         """What is wanted where a folder stays switched: what stands there at its own place."""
@@ -276,8 +293,8 @@ class Judged:
 class Reporting(Reads):
     """A repository as readers see it who have working copies of it."""
 
-    # Whether a command may have a target below the session's place, and a folder be reported as it stands at another URL.
-    TAKES_TARGETS, TAKES_LINKS = False, False
+    # Whether a folder may be reported as it stands at another URL, and a command have a target that stands at one.
+    AS_SVNSERVE = TAKES_LINKS = False
 
     def __init__(self, *words):
         super().__init__(*words)
@@ -325,9 +342,12 @@ class Reporting(Reads):
 
     def ordered(self, target, depth, url=None):
         """Where what is wanted stands; what isn't offered is denied before its report."""
-        if 'update' not in ANSWERED or depth not in (b'infinity', b'unknown') or len(target) > self.TAKES_TARGETS:
+        if 'update' not in ANSWERED or depth not in (b'infinity', b'unknown') or len(target) > 1:
             raise Denied(200007)
-        return self.place + target if url is None else self.linked(url)
+        place = self.place + target if url is None else self.linked(url)
+        if target and place != self.place + target and not self.AS_SVNSERVE:
+            raise Denied(200007)
+        return place
 
     def report(self, *words):
         def answered():

@@ -197,6 +197,7 @@ def updated(reader):
             copies.alike('update of %s to %d' % (path, numbers[0]))
         copies.does('update', 'wc')
         copies.alike('update of all')
+    if 'elsewhere' in reader.answered:
         copies.does('update', '-r', str(numbers[0]), 'wc')
         copies.does('update', *('wc/' + it for it in files[-4:]))
         copies.alike('update of what may not be there')
@@ -222,7 +223,7 @@ def switched(reader):
     for number in (older_of(reader, other)[0], reader.head):
         copies.does('update', '-r', str(number), 'wc')
         copies.alike('update of a switched folder to %d' % number)
-    if 'targets' in reader.answered:
+    if 'elsewhere' in reader.answered:
         copies.does('switch', '--ignore-ancestry', reader.at(front + inside), 'wc/' + inside)
         copies.alike('switch of a folder')
     return copies.fine
@@ -240,6 +241,7 @@ def compared(reader):
     copies.sections(b'Index: ', 'diff', '-r', str(numbers[0]), 'wc')
     if 'targets' in reader.answered:
         copies.sections(b'Index: ', 'diff', '-r', '%d:%d' % (numbers[0], reader.head), 'wc')
+    if 'elsewhere' in reader.answered:
         copies.sections(b'Index: ', 'diff', reader.at(other), reader.at(main))
     if 'log' in reader.answered:
         path = 'wc/' + [it[len(main and main + '/'):] for it in reader.nodes(reader.head)[1] if it.startswith(main and main + '/')][-1]
