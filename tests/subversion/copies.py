@@ -193,6 +193,10 @@ def updated(reader):
         copies.alike('update of several')
     if 'targets' in reader.answered:
         for path in folders[:2] + files[-2:]:
+            # (what it stands in has to be there in that revision)
+            above = os.path.dirname(front + path)
+            if 'elsewhere' not in reader.answered and above and above not in reader.nodes(numbers[0])[0]:
+                continue
             copies.does('update', '-r', str(numbers[0]), 'wc/' + path)
             copies.alike('update of %s to %d' % (path, numbers[0]))
         copies.does('update', 'wc')
@@ -234,7 +238,7 @@ def compared(reader):
     numbers, before = older_of(reader, main), max(1, reader.head - 20)
     for one, two in ((before, reader.head), (reader.head, before), (1, before // 2)):
         # (of a folder below the root it is a part of another that is asked for)
-        for path in [main, ''] if 'targets' in reader.answered else ['']:
+        for path in [main, ''] if 'targets' in reader.answered and ('elsewhere' in reader.answered or one and two) else ['']:
             copies.sections(b'Index: ', 'diff', '-r', '%d:%d' % (one, two), reader.at(path))
             copies.sections(b'', 'diff', '--summarize', '-r', '%d:%d' % (one, two), reader.at(path))
     copies.does('checkout', reader.at(main), 'wc')
