@@ -20,8 +20,10 @@ toy() {
 }
 
 # The stand-in for rt tells what it was called with in $work/called, and what it found in $work/seen, and builds the program
-# by copying it. In $work/fake/rattle-kept it keeps each library, with a file that is the same for all. Where a file $work/refuses names a crate it doesn't prove that; with a file $work/forgets it keeps nothing,
-# with $work/old it has no `rt ci NAME`, and what $work/meanwhile says is done while it builds the program.
+# by copying it. In $work/fake/rattle-kept it keeps each library, with a file that is the same for all; in $work/found it
+# tells what was kept there before it proves low. Where a file $work/refuses names a crate it doesn't prove that; with a
+# file $work/forgets it keeps nothing, with $work/old it has no `rt ci NAME`, and what $work/meanwhile says is done while it
+# builds the program.
 mkdir -p "$work/fake/kit/bin"
 ln -s kit/bin/rt "$work/fake/rt"
 cat >"$work/fake/kit/bin/rt" <<END
@@ -36,10 +38,12 @@ case "\$1 \${2:-}" in
 version*) echo 'stand-in' ;;
 'ci '?*)
     called "ci \$2 jobs=\${RT_JOBS:-}"
+    [ "\$2" != low ] || ls "$work/fake/rattle-kept" 2>/dev/null | grep '^proof-' | tr '\n' ' ' >"$work/found"
     find . >"$work/seen"
     proves "\$2"
     kept="$work/fake/rattle-kept/proof-\$2-1"
     mkdir -p "\$kept"
+    touch "\$kept"
     echo '{"key": "1", "files": [["below/format", "1"], ["format", "2'\$2'"]]}' >"\$kept/made.json"
     echo std >"\$kept/0"
     echo "\$2" >"\$kept/1"
