@@ -1,9 +1,11 @@
 pub mod Calls
 pub mod Folders
+pub mod Grafts
 pub mod Later
 pub mod Planning
 pub mod Sending
 pub mod Sharing
+pub mod Switching
 pub mod Takes
 pub mod Targets
 pub mod Urls

@@ -1,13 +1,13 @@
 -- The plan of an edit, and what comes of it.
 use Rattle.std.proofs.Common.{◌≡◌, ℕ, suc, ◌≤◌, take, inl, inr, Bool, true, false, List, [], Option, Some, None, is_none, Result, Ok, Err, refl, sym, ap, subst, ◌∙◌, arith}
 use Rattle.std.specs.Prelude.{IfOk}
-use Rattle.std.specs.Option.{option_map, option_or}
+use Rattle.std.specs.Option.{option_or}
 use Rattle.std.specs.FinMap as finite
 use Rattle.std.specs.Io.KnownBytes.{Appends}
 use Rattle.uuid.specs.Text.{hyphenated_text, lower}
 use Rattle.fleet_disk.specs.Rules.{Rose}
 use Rattle.node_base.specs.Path.{Path, same_path}
-use Rattle.tree_reports.specs.Applied.{content}
+use Rattle.node_base.specs.declared.node.Node.{Node}
 use Rattle.tree_reports.specs.Reports.{content_at}
 use Rattle.browse_wire.specs.Asks.{Ask}
 use Rattle.browse_wire.specs.Reports.{Report}
@@ -15,54 +15,90 @@ use Rattle.browse_wire.specs.Urls.{Url}
 use Rattle.repo_core.specs.Repository.{Repository}
 use Rattle.ra_serve.specs.declared.fault.ServeFault.{ServeFault}
 use Rattle.ra_serve.specs.Answers.{asked}
+use Rattle.ra_serve.specs.Ports.{tree_of}
+use Rattle.ra_browse.specs.declared.denial.Denial.{Denial}
 use Rattle.ra_browse.specs.declared.stop.Stop.{Stop}
 use Rattle.ra_browse.specs.declared.stop.Stop.TheVariants as stop
-use Rattle.ra_browse.specs.Answers.{no_revision, dir_denied}
-use Rattle.ra_serve.specs.Answers.{node_in}
+use Rattle.ra_browse.specs.Answers.{no_revision}
 use Rattle.ra_browse.specs.Denials.{unless_denied}
 use Rattle.ra_browse.specs.Tellings.{Comes, MayStop, TellsStop}
-use Rattle.ra_report.specs.Edits.{Edit, IsEdit, EditsIf, all_props, edit_told, report_denied}
+use Rattle.ra_report.specs.Edits.{Edit, IsEdit, EditsIf, all_props, edit_denied, edit_told, report_denied, wanted_with}
 use Rattle.ra_report.specs.Finishing.{Finished, Finishes}
-use Rattle.ra_report.specs.Orders.{order_denied, wanted_denied, wanted_known, revision_of, place_of, target_of, IsOrder}
-use Rattle.ra_report.specs.Plans.{IsWanted, IsPlan, IsPlanOf, IsEditOf, TellsPlan}
-use Rattle.ra_report.specs.Reports.{reports_denied, reported, base_of}
+use Rattle.ra_report.specs.Orders.{order_denied, place_denied, wanted_denied, wanted_in, revision_of, place_of, target_of, keeps, IsOrder}
+use Rattle.ra_report.specs.Plans.{AreKept, IsCopy, IsWanted, IsPlan, IsPlanned, IsPlanOf, IsEditOf, TellsPlan}
+use Rattle.ra_report.specs.Reports.{Having, having, reports_denied, reported, base_of}
+use Rattle.ra_report.specs.Switches.{kept, switches_denied, with_switches}
 use Rattle.ra_report.specs.declared.order.Order.{Order}
 use Rattle.ra_report.specs.declared.plan.Plan.{Plan}
 use Rattle.ra_report.specs.declared.plan.Wanted.{Wanted}
+use Rattle.ra_report.specs.declared.plan.WorkingCopy.{WorkingCopy}
+use Rattle.ra_report.specs.declared.switched.Switched.{Switched}
 use Rattle.ra_report.proofs.Calls.{first_alone, first_none, then_comes}
-use Rattle.ra_report.proofs.Later.{same_known}
 
 pub plan_ordered : (x : Repository) (at : Url) (c : Ask) (rs : List Report) (o : Order) (k m : ℕ) (r : Result Plan Stop) → order_denied at c ≡ None → IsOrder at c o
-    → Comes k m (option_or (wanted_denied x o.revision o.path) (reports_denied x at o.target (wanted_known x o.revision o.path) rs)) (IsPlan x at o.revision o.path o.target rs) r
-    → Comes k m (report_denied x at c rs) (IsPlan x at (revision_of c) (place_of at c) (target_of c) rs) r
+    → Comes k m (edit_denied x at o.revision o.path o.target o.keeps rs) (IsPlan x at o.revision o.path o.target o.keeps rs) r
+    → Comes k m (report_denied x at c rs) (IsPlan x at (revision_of c) (place_of at c) (target_of c) (keeps c) rs) r
 plan_ordered x at c rs o k m r d i h =
-    let Of : Option ℕ → Path → Path → Type 0 = λ n p t. Comes k m (option_or (wanted_denied x n p) (reports_denied x at t (wanted_known x n p) rs)) (IsPlan x at n p t rs) r in
-    then_comes k k m (order_denied at c) (option_or (wanted_denied x (revision_of c) (place_of at c)) (reports_denied x at (target_of c) (wanted_known x (revision_of c) (place_of at c)) rs)) (IsPlan x at (revision_of c) (place_of at c) (target_of c) rs) (IsPlan x at (revision_of c) (place_of at c) (target_of c) rs) r (omega arith) d (λ p z. z)
-    (subst (Of (revision_of c) (place_of at c)) i.2 (subst (λ p. Of (revision_of c) p o.target) i.1 (subst (λ n. Of n o.path o.target) i.0 h)))
+    let Of : Option ℕ → Path → Path → Bool → Type 0 = λ n p t b. Comes k m (edit_denied x at n p t b rs) (IsPlan x at n p t b rs) r in
+    let Is = IsPlan x at (revision_of c) (place_of at c) (target_of c) (keeps c) rs in
+    then_comes k k m (order_denied at c) (edit_denied x at (revision_of c) (place_of at c) (target_of c) (keeps c) rs) Is Is r (omega arith) d (λ p z. z)
+    (subst (Of (revision_of c) (place_of at c) (target_of c)) i.3 (subst (λ t. Of (revision_of c) (place_of at c) t o.keeps) i.2 (subst (λ p. Of (revision_of c) p o.target o.keeps) i.1 (subst (λ n. Of n o.path o.target o.keeps) i.0 h))))
 
--- what is wanted at each path
-known_is : (x : Repository) (n : Option ℕ) (p : Path) (w : Wanted) → IsWanted x n p w → content_at w.tree ≡ wanted_known x n p
-known_is x n p w i = same_known (content_at w.tree) (wanted_known x n p) (λ q. ap (option_map content) (i.tree q))
-
-pub plan_wanted : (x : Repository) (at : Url) (n : Option ℕ) (p t : Path) (rs : List Report) (w : Wanted) (k m l : ℕ) (r : Result Plan Stop) → k ≤ m → wanted_denied x n p ≡ None → IsWanted x n p w
-    → Comes m l (option_or (reports_denied x at t (content_at w.tree) rs) (no_revision x w.number)) (IsPlanOf x (reported x at t (content_at w.tree) rs) (base_of rs) (same_path t []) w) r
-    → Comes k l (option_or (wanted_denied x n p) (reports_denied x at t (wanted_known x n p) rs)) (IsPlan x at n p t rs) r
-plan_wanted x at n p t rs w k m l r h d i c =
-    let there : no_revision x w.number ≡ None = ap (no_revision x) i.number ∙ first_none (no_revision x (asked x n)) (dir_denied (node_in x (asked x n) p)) d in
-    let v = wanted_known x n p in
-    then_comes k m l (wanted_denied x n p) (reports_denied x at t v rs) (IsPlanOf x (reported x at t v rs) (base_of rs) (same_path t []) w) (IsPlan x at n p t rs) r h d
-    (λ a e. record { wants = subst (IsWanted x n p) (sym e.0) i; has = e.1; tells_root = e.4; identity = e.2; revisions = e.3 ∙ ap (λ u. take (suc u.number) (all_props x)) (sym e.0) })
+-- what is wanted, and what of it is denied
+pub plan_wanted : (x : Repository) (at : Url) (n : Option ℕ) (p t : Path) (b : Bool) (rs : List Report) (w : Wanted) (k m l : ℕ) (r : Result Plan Stop) → k ≤ m → wanted_denied x n p t ≡ None → IsWanted x n (wanted_in x n p t) w
+    → Comes m l (option_or (reports_denied x at t rs) (option_or (switches_denied (finite.get w.tree) w.whole (kept b (reported x at t rs).switches)) (no_revision x w.number))) (IsPlanOf x (reported x at t rs) (base_of rs) b (same_path t []) w) r
+    → Comes k l (edit_denied x at n p t b rs) (IsPlan x at n p t b rs) r
+plan_wanted x at n p t b rs w k m l r h d i c =
+    let there : no_revision x w.number ≡ None = ap (no_revision x) i.number ∙ first_none (no_revision x (asked x n)) (place_denied (tree_of x (asked x n)) p t) d in
+    let tree : finite.get w.tree ≡ wanted_in x n p t = λ j q. i.tree q j in
+    let ss = kept b (reported x at t rs).switches in
+    let denied = switches_denied (wanted_in x n p t) (tree_of x (asked x n)) ss in
+    let same : switches_denied (finite.get w.tree) w.whole ss ≡ denied = ap (λ f. switches_denied f w.whole ss) tree ∙ ap (λ v. switches_denied (wanted_in x n p t) v ss) i.whole in
+    let alike : with_switches (finite.get w.tree) w.whole ss ≡ wanted_with x n p t b (reported x at t rs) = ap (λ f. with_switches f w.whole ss) tree ∙ ap (λ v. with_switches (wanted_in x n p t) v ss) i.whole in
+    let Of = IsPlanOf x (reported x at t rs) (base_of rs) b (same_path t []) w in
+    then_comes k m l (wanted_denied x n p t) (option_or (reports_denied x at t rs) denied) Of (IsPlan x at n p t b rs) r h d
+    (λ a e. record {
+      wants = record { number = e.wants.number ∙ i.number; tree = λ q. e.wants.tree q ∙ ap (λ (f : Path → Option Node). f q) alike; whole = e.wants.whole ∙ i.whole };
+      has = e.has;
+      tells_root = e.tells_root;
+      identity = e.identity;
+      revisions = e.revisions;
+    })
     (
-    subst (λ o. Comes m l o (IsPlanOf x (reported x at t v rs) (base_of rs) (same_path t []) w) r) (first_alone (reports_denied x at t v rs) (no_revision x w.number) there)
-    (subst (λ u. Comes m l (option_or (reports_denied x at t u rs) (no_revision x w.number)) (IsPlanOf x (reported x at t u rs) (base_of rs) (same_path t []) w) r) (known_is x n p w i) c)
+    subst (λ o. Comes m l (option_or (reports_denied x at t rs) o) Of r) (first_alone denied (no_revision x w.number) there)
+    (subst (λ o. Comes m l (option_or (reports_denied x at t rs) (option_or o (no_revision x w.number))) Of r) same c)
     )
+
+-- what is reported
+pub plan_reported : (x : Repository) (h : Having) (base : Option ℕ) (b told : Bool) (w : Wanted) (copy : WorkingCopy) (d : Option Denial) (k m l : ℕ) (r : Result Plan Stop) → k ≤ m → d ≡ None → IsCopy h base copy
+    → Comes m l (option_or (switches_denied (finite.get w.tree) w.whole (kept b copy.switches.items)) (no_revision x w.number)) (IsPlanOf x (having (content_at copy.report) copy.switches.items) (Some copy.base) b told w) r
+    → Comes k l (option_or d (option_or (switches_denied (finite.get w.tree) w.whole (kept b h.switches)) (no_revision x w.number))) (IsPlanOf x h base b told w) r
+plan_reported x h base b told w copy d k m l r less e i c =
+    let Of : Having → Option ℕ → Type 0 = λ v n. Comes m l (option_or (switches_denied (finite.get w.tree) w.whole (kept b v.switches)) (no_revision x w.number)) (IsPlanOf x v n b told w) r in
+    then_comes k m l d (option_or (switches_denied (finite.get w.tree) w.whole (kept b h.switches)) (no_revision x w.number)) (IsPlanOf x h base b told w) (IsPlanOf x h base b told w) r less e (λ a z. z)
+    (subst (Of h) i.base_is (subst (λ v. Of v (Some copy.base)) i.has c))
+
+-- what stays switched
+pub plan_kept : (x : Repository) (ss : List Switched) (b told root : Bool) (w new : Wanted) (copy : WorkingCopy) (d : Option Denial) (k m : ℕ) (r : Result Plan Stop) → d ≡ None → ss ≡ kept b copy.switches.items → AreKept ss w new → root ≡ told
+    → Comes k m (no_revision x new.number) (IsPlanned x new copy root) r
+    → Comes k m (option_or d (no_revision x w.number)) (IsPlanOf x (having (content_at copy.report) copy.switches.items) (Some copy.base) b told w) r
+plan_kept x ss b told root w new copy d k m r e s a y c =
+    then_comes k k m d (no_revision x w.number) (IsPlanned x new copy root) (IsPlanOf x (having (content_at copy.report) copy.switches.items) (Some copy.base) b told w) r (omega arith) e
+    (λ p i. record {
+      wants = subst (AreKept (kept b copy.switches.items) w) (sym i.0) (subst (λ z. AreKept z w new) s a);
+      has = subst (IsCopy (having (content_at copy.report) copy.switches.items) (Some copy.base)) (sym i.1) (record { has = refl; base_is = refl });
+      tells_root = i.4 ∙ y;
+      identity = i.2;
+      revisions = i.3 ∙ ap (λ (u : Wanted). take (suc u.number) (all_props x)) (sym i.0);
+    })
+    (subst (λ n. Comes k m (no_revision x n) (IsPlanned x new copy root) r) a.number c)
 
 -- ---- the answer
 
-is_edit : (x : Repository) (at : Url) (n : Option ℕ) (p t : Path) (rs : List Report) (v : Plan) (e : Edit) → IsPlan x at n p t rs v → IsEditOf v (hyphenated_text lower v.identity) e → IsEdit x at n p t rs e
-is_edit x at n p t rs v e i o = record {
+is_edit : (x : Repository) (at : Url) (n : Option ℕ) (p t : Path) (b : Bool) (rs : List Report) (v : Plan) (e : Edit) → IsPlan x at n p t b rs v → IsEditOf v (hyphenated_text lower v.identity) e → IsEdit x at n p t b rs e
+is_edit x at n p t b rs v e i o = record {
   tells_root = o.tells_root ∙ i.tells_root;
-  reports = λ q. ap (λ m. content_at m q) o.reported_is ∙ i.has.report q;
+  reports = λ q. ap (λ m. content_at m q) o.reported_is ∙ ap (λ (h : Having). h.known q) i.has.has;
   wants = λ q. ap (λ m. finite.get m q) o.wanted_is ∙ i.wants.tree q;
   number = o.number ∙ i.wants.number;
   base = o.base ∙ i.has.base_is;
@@ -73,11 +109,11 @@ is_edit x at n p t rs v e i o = record {
 }
 
 module _ (x : Repository) (at : Url) (c : Ask) (rs : List Report) where
-  sent : (rose : Type 0) (before now : Option (List ℕ)) (is : Bool) (v : Plan) → report_denied x at c rs ≡ None → IsPlan x at (revision_of c) (place_of at c) (target_of c) rs v → is ≡ true → TellsPlan v (hyphenated_text lower v.identity) edit_told before now → Finished x at c rs rose before now is
+  sent : (rose : Type 0) (before now : Option (List ℕ)) (is : Bool) (v : Plan) → report_denied x at c rs ≡ None → IsPlan x at (revision_of c) (place_of at c) (target_of c) (keeps c) rs v → is ≡ true → TellsPlan v (hyphenated_text lower v.identity) edit_told before now → Finished x at c rs rose before now is
   sent rose before now is v d i k t = record {
     halt = None;
     edit = Some t.edit;
-    has = subst (λ o. EditsIf (is_none o) x at c rs (Some t.edit)) (sym d) (is_edit x at (revision_of c) (place_of at c) (target_of c) rs v t.edit i t.planned);
+    has = subst (λ o. EditsIf (is_none o) x at c rs (Some t.edit)) (sym d) (is_edit x at (revision_of c) (place_of at c) (target_of c) (keeps c) rs v t.edit i t.planned);
     lawful = tt;
     counted = inl tt;
     answer = k;
@@ -106,7 +142,7 @@ module _ (x : Repository) (at : Url) (c : Ask) (rs : List Report) where
   stopped k n before now is stop.OutOfMemory m a t = absurd t
 
 pub finishes_sent : {P W : Type 0} (repository : P → Option Repository) (refusals : P → ℕ) (contents : W → Option (List ℕ)) (at : Url) (c : Ask) (rs : List Report) (old new : P) (out : W) (v : Plan) (result : Result (W × Bool) ServeFault)
-    → ((x : Repository) → repository old ≡ Some x → (report_denied x at c rs ≡ None) × IsPlan x at (revision_of c) (place_of at c) (target_of c) rs v)
+    → ((x : Repository) → repository old ≡ Some x → (report_denied x at c rs ≡ None) × IsPlan x at (revision_of c) (place_of at c) (target_of c) (keeps c) rs v)
     → IfOk result (λ r. (r.1 ≡ true) × TellsPlan v (hyphenated_text lower v.identity) edit_told (contents out) (contents r.0))
     → IfOk result (λ r. Finishes repository refusals contents at c rs old new out r.0 r.1)
 finishes_sent repository refusals contents at c rs old new out v (Ok r) h t = λ x e. let f = h x e in sent x at c rs (Rose (refusals old) (refusals new)) (contents out) (contents r.0) r.1 v f.0 f.1 t.0 t.1

@@ -1,7 +1,8 @@
 -- Paths that a report's commands set.
-use Rattle.std.proofs.Common.{◌≡◌, ℕ, Bool, true, false, not, ◌&&◌, [], ◌∷◌, Option, Some, None, is_some, is_none, Result, Ok, Err, refl, sym, ap, subst, ◌∙◌, cond}
+use Rattle.std.proofs.Common.{◌≡◌, ℕ, Bool, true, false, not, ◌&&◌, List, [], ◌∷◌, ◌++◌, Option, Some, None, is_some, is_none, Result, Ok, Err, refl, sym, ap, subst, ◌∙◌, cond, arith}
 use Rattle.std.specs.Option.{option_map, option_map_or, option_or}
 use Rattle.std.specs.FinMap as finite
+use Rattle.node_base.specs.Limits.{fits}
 use Rattle.node_base.specs.Path.{Path, same_path}
 use Rattle.node_base.specs.Tree.{PathMap, blocked}
 use Rattle.node_base.specs.declared.fault.TreeFault.{TreeFault}
@@ -13,8 +14,8 @@ use Rattle.tree_reports.specs.Applied.{content}
 use Rattle.tree_reports.specs.Reports.{Answers, brought, content_at, due, placed, report_fault}
 use Rattle.tree_reports.specs.declared.error.ReportError.{ReportError}
 use Rattle.tree_reports.specs.declared.error.ReportError.TheVariants as error
-use Rattle.browse_wire.specs.Reports.{Reported, report_as}
-use Rattle.browse_wire.specs.Urls.{Url}
+use Rattle.browse_wire.specs.Reports.{Reported, SetPath, DeletePath, LinkPath, report_as}
+use Rattle.browse_wire.specs.Urls.{Url, url_read}
 use Rattle.browse_wire.specs.declared.report.ReportCommand.{ReportCommand}
 use Rattle.repo_core.specs.Repository.{Repository}
 use Rattle.ra_serve.specs.Ports as port
@@ -22,11 +23,14 @@ use Rattle.ra_serve.specs.Ports.{tree_of}
 use Rattle.ra_browse.specs.declared.denial.Denial.{Denial}
 use Rattle.ra_browse.specs.declared.denial.Denial.TheVariants as denial
 use Rattle.ra_browse.specs.declared.stop.Stop.{Stop}
-use Rattle.ra_browse.specs.Answers.{no_revision}
+use Rattle.ra_browse.specs.declared.stop.Stop.TheVariants as stop
+use Rattle.ra_browse.specs.Answers.{no_revision, url_denied, moved_to}
 use Rattle.ra_browse.specs.Tellings.{Comes, Decides, Denies}
 use Rattle.ra_browse.proofs.Causes.{is_there}
-use Rattle.ra_report.specs.Reports.{Known, is_blocked, placing_denied, source_denied, with_source, next_denied, next_known, error_stop}
-use Rattle.ra_report.proofs.Calls.{then_decides}
+use Rattle.ra_report.specs.Reports.{Known, Having, having, is_blocked, lying, placing_denied, shallow_denied, source_denied, switched, with_source, next, next_denied, error_stop}
+use Rattle.ra_report.specs.declared.switched.Switched.{Switched}
+use Rattle.ra_report.proofs.Calls.{decides_comes, then_comes, then_decides}
+use Rattle.ra_report.proofs.Later.{same_having}
 
 -- ---- why a path isn't taken
 
@@ -106,7 +110,55 @@ source_comes x old r source tree new k m result h t d =
 
 -- ---- of a command
 
-pub taken_as : (x : Repository) (at : Url) (old new : Known) (c d : ReportCommand) (k m : ℕ) (r : Result (Unit {0}) Stop) → c ≡ d
-    → Comes k m (next_denied x at old (report_as d)) (λ _. (q : Path) → new q ≡ next_known x at old (report_as d) q) r
-    → Comes k m (next_denied x at old (report_as c)) (λ _. (q : Path) → new q ≡ next_known x at old (report_as c) q) r
-taken_as x at old new c d k m r e h = subst (λ v. Comes k m (next_denied x at old (report_as v)) (λ _. (q : Path) → new q ≡ next_known x at old (report_as v) q) r) (sym e) h
+-- what is known behind it, and what is switched
+comes_as : {A : Type 0} (k m : ℕ) (d : Option Denial) (Is Also : A → Type 0) (r : Result A Stop) → ((a : A) → Is a → Also a) → Comes k m d Is r → Comes k m d Also r
+comes_as k m d Is Also (Ok a) f h = (h.0, f a h.1)
+comes_as k m d Is Also (Err s) f h = h
+
+pub known_comes : (new known : Known) (ss : List Switched) (k m : ℕ) (d : Option Denial) (r : Result (Unit {0}) Stop) → Comes k m d (λ _. (q : Path) → new q ≡ known q) r → Comes k m d (λ _. having new ss ≡ having known ss) r
+known_comes new known ss k m d r h = comes_as k m d (λ _. (q : Path) → new q ≡ known q) (λ _. having new ss ≡ having known ss) r (λ u i. same_having new known ss ss i refl) h
+
+-- a path as it stands where it lies
+pub set_comes : (x : Repository) (at : Url) (h : Having) (r : Reported) (source : Path) (new : Known) (k m : ℕ) (result : Result (Unit {0}) Stop) → shallow_denied r.depth ≡ None → fault_if (not (fits (lying at h r.path))) denial.NoPath ≡ None → source ≡ lying at h r.path
+    → Comes k m (source_denied x h.known r source) (λ _. (q : Path) → new q ≡ with_source x h.known r source q) result
+    → Comes k m (next_denied x at h (SetPath r)) (λ _. having new h.switches ≡ next x at h (SetPath r)) result
+set_comes x at h r source new k m result all small e is =
+    let place = lying at h r.path in
+    let Is : Unit {0} → Type 0 = λ _. having new h.switches ≡ having (with_source x h.known r place) h.switches in
+    then_comes k k m (shallow_denied r.depth) (option_or (fault_if (not (fits place)) denial.NoPath) (source_denied x h.known r place)) Is Is result (omega arith) all (λ u i. i)
+    (
+    then_comes k k m (fault_if (not (fits place)) denial.NoPath) (source_denied x h.known r place) Is Is result (omega arith) small (λ u i. i)
+    (known_comes new (with_source x h.known r place) h.switches k m (source_denied x h.known r place) result (subst (λ s. Comes k m (source_denied x h.known r s) (λ _. (q : Path) → new q ≡ with_source x h.known r s q) result) e is))
+    )
+
+-- a path as it stands at another URL
+pub link_comes : (x : Repository) (at : Url) (h new : Having) (r : Reported) (url : List ℕ) (source : Path) (k m : ℕ) (result : Result (Unit {0}) Stop) → shallow_denied r.depth ≡ None → url_denied at (url_read url) ≡ None → source ≡ (moved_to at (url_read url)).1
+    → Comes k m (source_denied x h.known r source) (λ _. new ≡ having (with_source x h.known r source) (h.switches ++ switched r.path source ∷ [])) result
+    → Comes k m (next_denied x at h (LinkPath r url)) (λ _. new ≡ next x at h (LinkPath r url)) result
+link_comes x at h new r url source k m result all there e is =
+    let place = (moved_to at (url_read url)).1 in
+    let Is : Unit {0} → Type 0 = λ _. new ≡ having (with_source x h.known r place) (h.switches ++ switched r.path place ∷ []) in
+    then_comes k k m (shallow_denied r.depth) (option_or (url_denied at (url_read url)) (source_denied x h.known r place)) Is Is result (omega arith) all (λ u i. i)
+    (
+    then_comes k k m (url_denied at (url_read url)) (source_denied x h.known r place) Is Is result (omega arith) there (λ u i. i)
+    (subst (λ s. Comes k m (source_denied x h.known r s) (λ _. new ≡ having (with_source x h.known r s) (h.switches ++ switched r.path s ∷ [])) result) e is)
+    )
+
+-- a path that goes
+pub delete_comes : (x : Repository) (at : Url) (h : Having) (p : Path) (new : Known) (k m : ℕ) (result : Result (Unit {0}) Stop) → Decides (fault_if (same_path p []) denial.BadReport) (λ _. (q : Path) → new q ≡ placed h.known p (λ _. None) q) result
+    → Comes k m (next_denied x at h (DeletePath p)) (λ _. having new h.switches ≡ next x at h (DeletePath p)) result
+delete_comes x at h p new k m result d =
+    known_comes new (placed h.known p (λ _. None)) h.switches k m (fault_if (same_path p []) denial.BadReport) result (decides_comes k m (fault_if (same_path p []) denial.BadReport) (λ _. (q : Path) → new q ≡ placed h.known p (λ _. None) q) result d)
+
+-- a switched path more
+pub switch_comes : (known new : Known) (ss now : List Switched) (s : Switched) (d : Option Denial) (k m : ℕ) (result : Result (Unit {0}) Stop) → d ≡ None → ((q : Path) → new q ≡ known q) → Decides None (λ _. now ≡ ss ++ s ∷ []) result
+    → Comes k m d (λ _. having new now ≡ having known (ss ++ s ∷ [])) result
+switch_comes known new ss now s d k m (Ok u) e is a = (e, same_having new known now (ss ++ s ∷ []) is a.1)
+switch_comes known new ss now s d k m (Err (stop.Denied w)) e is a = absurd cc
+switch_comes known new ss now s d k m (Err (stop.Port f)) e is a = absurd a
+switch_comes known new ss now s d k m (Err stop.OutOfMemory) e is a = tt
+
+pub taken_as : (x : Repository) (at : Url) (old new : Having) (c d : ReportCommand) (k m : ℕ) (r : Result (Unit {0}) Stop) → c ≡ d
+    → Comes k m (next_denied x at old (report_as d)) (λ _. new ≡ next x at old (report_as d)) r
+    → Comes k m (next_denied x at old (report_as c)) (λ _. new ≡ next x at old (report_as c)) r
+taken_as x at old new c d k m r e h = subst (λ v. Comes k m (next_denied x at old (report_as v)) (λ _. new ≡ next x at old (report_as v)) r) (sym e) h

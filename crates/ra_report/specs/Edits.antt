@@ -5,6 +5,7 @@ use Rattle.std.specs.FinMap as finite
 use Rattle.node_base.specs.Path.{Path, same_path}
 use Rattle.node_base.specs.Props.{PropMap}
 use Rattle.node_base.specs.Tree.{PathMap}
+use Rattle.node_base.specs.declared.node.Node.{Node}
 use Rattle.dump_load.specs.declared.change.Change.{Change}
 use Rattle.delta_editor.specs.declared.call.Call.{Call}
 use Rattle.ra_item.specs.Items.{spell}
@@ -15,8 +16,8 @@ use Rattle.browse_wire.specs.Reports.{Report}
 use Rattle.browse_wire.specs.Urls.{Url}
 use Rattle.repo_core.specs.Repository.{Repository}
 use Rattle.ra_serve.specs.declared.fault.PortFault.{PortFault}
-use Rattle.ra_serve.specs.Answers.{asked, node_in, refused}
-use Rattle.ra_serve.specs.Ports.{refusal_of, IsOwn}
+use Rattle.ra_serve.specs.Answers.{asked, refused}
+use Rattle.ra_serve.specs.Ports.{refusal_of, tree_of, IsOwn}
 use Rattle.ra_serve.specs.Sessions.{identity_text}
 use Rattle.tree_reports.specs.Reports.{content_at}
 use Rattle.tree_changes.specs.Changes.{AreBetween}
@@ -25,12 +26,23 @@ use Rattle.ra_update.specs.declared.facts.Facts.{Facts}
 use Rattle.ra_browse.specs.declared.denial.Denial.{Denial}
 use Rattle.ra_browse.specs.Denials.{unless_denied}
 use Rattle.ra_browse.specs.Histories.{is_looked_at}
-use Rattle.ra_report.specs.Orders.{order_denied, wanted_denied, wanted_known, revision_of, place_of, target_of}
-use Rattle.ra_report.specs.Reports.{reports_denied, reported, base_of}
+use Rattle.ra_report.specs.Orders.{order_denied, wanted_denied, wanted_in, revision_of, place_of, target_of, keeps}
+use Rattle.ra_report.specs.Reports.{Having, reports_denied, reported, base_of}
+use Rattle.ra_report.specs.Switches.{kept, switches_denied, with_switches}
 
--- why a report is answered by no edit
+-- what is wanted where a working copy has this: what stands at the place, and what is switched stays so
+abbrev pub wanted_with : Repository → Option ℕ → Path → Path → Bool → Having → Path → Option Node
+wanted_with x n place t keeps h = with_switches (wanted_in x n place t) (tree_of x (asked x n)) (kept keeps h.switches)
+
+-- why an order is answered by no edit
+abbrev pub edit_denied : Repository → Url → Option ℕ → Path → Path → Bool → List Report → Option Denial
+edit_denied x at n place t keeps rs =
+    option_or (wanted_denied x n place t)
+    (option_or (reports_denied x at t rs) (switches_denied (wanted_in x n place t) (tree_of x (asked x n)) (kept keeps (reported x at t rs).switches)))
+
+-- why a report is
 abbrev pub report_denied : Repository → Url → Ask → List Report → Option Denial
-report_denied x at c rs = option_or (order_denied at c) (option_or (wanted_denied x (revision_of c) (place_of at c)) (reports_denied x at (target_of c) (wanted_known x (revision_of c) (place_of at c)) rs))
+report_denied x at c rs = option_or (order_denied at c) (edit_denied x at (revision_of c) (place_of at c) (target_of c) (keeps c) rs)
 
 -- what was reported, what is wanted with what is told beside it, and the changes that make the one of the other
 pub record Edit : Type 0 where
@@ -48,11 +60,11 @@ calls e = calls_told e.facts (e.reported ∷ []) e.changes
 abbrev pub all_props : Repository → List PropMap
 all_props x = map (λ r. r.props) x.revisions
 
--- of what a working copy reports it makes what stands at a place of a revision; beside a target nothing differs, and nothing is told
-pub record IsEdit (x : Repository) (at : Url) (n : Option ℕ) (place t : Path) (rs : List Report) (e : Edit) : Type 0 where
-  pub reports : (q : Path) → content_at e.reported q ≡ reported x at t (wanted_known x n place) rs q
+-- of what a working copy reports it makes what is wanted; a target stands alone in its folder, of which nothing is told
+pub record IsEdit (x : Repository) (at : Url) (n : Option ℕ) (place t : Path) (keeps : Bool) (rs : List Report) (e : Edit) : Type 0 where
+  pub reports : (q : Path) → content_at e.reported q ≡ (reported x at t rs).known q
   pub tells_root : e.facts.tells_root ≡ same_path t []
-  pub wants : (q : Path) → finite.get (wanted e) q ≡ node_in x (asked x n) (place ++ q)
+  pub wants : (q : Path) → finite.get (wanted e) q ≡ wanted_with x n place t keeps (reported x at t rs) q
   pub number : e.facts.number ≡ asked x n
   pub base : e.facts.base ≡ base_of rs
   pub identity : e.facts.identity.now ≡ identity_text x
@@ -74,7 +86,7 @@ maybe_told (Some e) = edit_told e
 -- the edit where one is sent, and none where none is
 abbrev pub EditsIf : Bool → Repository → Url → Ask → List Report → Option Edit → Type 0
 EditsIf true x at c rs None = ⊥
-EditsIf true x at c rs (Some e) = IsEdit x at (revision_of c) (place_of at c) (target_of c) rs e
+EditsIf true x at c rs (Some e) = IsEdit x at (revision_of c) (place_of at c) (target_of c) (keeps c) rs e
 EditsIf false x at c rs o = o ≡ None
 
 -- one is where nothing is denied, and the port refused nothing by itself

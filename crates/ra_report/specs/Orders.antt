@@ -1,7 +1,12 @@
 -- What a command that a report follows wants a working copy to become: what stands at a place of a revision.
 use Rattle.std.specs.Prelude.{◌≡◌, ℕ, Bool, true, false, not, ◌&&◌, List, [], ◌∷◌, ◌++◌, Option, Some, None}
-use Rattle.std.specs.Option.{option_map, option_map_or, option_or}
-use Rattle.node_base.specs.Path.{Path, rest_after, same_path}
+use Rattle.std.specs.Option.{option_or}
+use Rattle.std.specs.FinMap as finite
+use Rattle.node_base.specs.Limits.{fits}
+use Rattle.node_base.specs.Path.{Path}
+use Rattle.node_base.specs.Tree.{PathMap, alone, grafted, new_dir}
+use Rattle.node_base.specs.declared.node.Node.{Node}
+use Rattle.path_tree.specs.Copies.{copy_too_long}
 use Rattle.dump_load.specs.Faults.{fault_if}
 use Rattle.browse_wire.specs.Asks.{Ask, Update, Switch, Status, Diff}
 use Rattle.browse_wire.specs.Urls.{Url, url_read}
@@ -9,8 +14,8 @@ use Rattle.browse_wire.specs.declared.depth.Depth.TheVariants as depth
 use Rattle.browse_wire.specs.declared.depth.DepthWord.{DepthWord}
 use Rattle.browse_wire.specs.declared.depth.DepthWord.TheVariants as said
 use Rattle.repo_core.specs.Repository.{Repository}
-use Rattle.tree_reports.specs.Applied.{Content, content}
 use Rattle.ra_serve.specs.Answers.{asked, node_in}
+use Rattle.ra_serve.specs.Ports.{tree_of}
 use Rattle.ra_browse.specs.declared.denial.Denial.{Denial}
 use Rattle.ra_browse.specs.declared.denial.Denial.TheVariants as denial
 use Rattle.ra_browse.specs.Answers.{no_revision, dir_denied, url_denied, moved_to}
@@ -41,25 +46,20 @@ is_short (n ∷ m ∷ p) = false
 abbrev pub part_denied : Path → DepthWord → Option Denial
 part_denied p d = fault_if (not (is_short p && goes_all d)) denial.Unsupported
 
--- a path is the target in a folder
-abbrev pub is_target : Path → Path → Path → Bool
-is_target here p there = option_map_or (λ r. same_path r p) (rest_after here there) false
+-- a command without a URL: its target's path passes the limits
+abbrev pub here_denied : Url → Path → DepthWord → Option Denial
+here_denied at p d = option_or (part_denied p d) (fault_if (not (fits (at.1 ++ p))) denial.NoPath)
 
--- a target isn't offered whose URL is another's
-abbrev pub elsewhere_denied : Path → Path → Path → Option Denial
-elsewhere_denied here [] there = None
-elsewhere_denied here (n ∷ p) there = fault_if (not (is_target here (n ∷ p) there)) denial.Unsupported
+-- one with a URL: it isn't below the session's root
+abbrev pub there_denied : Url → Path → DepthWord → List ℕ → Option Denial
+there_denied at p d url = option_or (part_denied p d) (url_denied at (url_read url))
 
--- of a command with a URL: it isn't below the session's root, or it is another's
-abbrev pub url_order_denied : Url → Path → List ℕ → Option Denial
-url_order_denied at p url = option_or (url_denied at (url_read url)) (elsewhere_denied at.1 p (moved_to at (url_read url)).1)
-
--- what is denied of a command before its report: its target, or its URL
+-- what is denied of a command before its report
 abbrev pub order_denied : Url → Ask → Option Denial
-order_denied at (Update n p d copies ignores) = part_denied p d
-order_denied at (Switch n p url d copies ignores) = option_or (part_denied p d) (url_order_denied at p url)
-order_denied at (Status n p d) = part_denied p d
-order_denied at (Diff n p url d ignores texts) = option_or (part_denied p d) (url_order_denied at p url)
+order_denied at (Update n p d copies ignores) = here_denied at p d
+order_denied at (Switch n p url d copies ignores) = there_denied at p d url
+order_denied at (Status n p d) = here_denied at p d
+order_denied at (Diff n p url d ignores texts) = there_denied at p d url
 order_denied at c = Some denial.Unsupported
 
 -- the revision that is wanted, the newest where none is named
@@ -78,29 +78,35 @@ target_of (Status n p d) = p
 target_of (Diff n p url d ignores texts) = p
 target_of c = []
 
--- the folder of a target is where the session stands; without one a URL names the folder
-abbrev pub folder_of : Path → Path → Path → Path
-folder_of here [] there = there
-folder_of here (n ∷ p) there = here
-
--- the place of the folder that is wanted
+-- the place of what is wanted: a URL's, or the target's own
 abbrev pub place_of : Url → Ask → Path
-place_of at (Switch n p url d copies ignores) = folder_of at.1 p (moved_to at (url_read url)).1
-place_of at (Diff n p url d ignores texts) = folder_of at.1 p (moved_to at (url_read url)).1
-place_of at c = at.1
+place_of at (Switch n p url d copies ignores) = (moved_to at (url_read url)).1
+place_of at (Diff n p url d ignores texts) = (moved_to at (url_read url)).1
+place_of at c = at.1 ++ target_of c
 
--- no such revision, or no directory there
-abbrev pub wanted_denied : Repository → Option ℕ → Path → Option Denial
-wanted_denied x n p = option_or (no_revision x (asked x n)) (dir_denied (node_in x (asked x n) p))
+-- of a tree: without a target a directory stands at the place; what stands there goes to the target's name
+abbrev pub place_denied : PathMap → Path → Path → Option Denial
+place_denied m p [] = dir_denied (finite.get m p)
+place_denied m p (n ∷ t) = option_or (fault_if (not (is_short (n ∷ t))) denial.Unsupported) (fault_if (copy_too_long m p (n ∷ t)) denial.Unsupported)
 
--- what stands below the place, apart from the nodes' numbers
-abbrev pub wanted_known : Repository → Option ℕ → Path → Path → Option Content
-wanted_known x n p q = option_map content (node_in x (asked x n) (p ++ q))
+-- no such revision, or that is denied of it
+abbrev pub wanted_denied : Repository → Option ℕ → Path → Path → Option Denial
+wanted_denied x n p t = option_or (no_revision x (asked x n)) (place_denied (tree_of x (asked x n)) p t)
+
+-- what stands at the place is the folder, or stands alone in one, at the target's name
+abbrev pub wanted_in : Repository → Option ℕ → Path → Path → Path → Option Node
+wanted_in x n p t = grafted (alone new_dir) t (λ q. node_in x (asked x n) (p ++ q))
+
+-- whether what is switched stays so: a command with a URL wants what is below that
+abbrev pub keeps : Ask → Bool
+keeps (Switch n p url d copies ignores) = false
+keeps (Diff n p url d ignores texts) = false
+keeps c = true
 
 -- an order of a revision, a place and a target
-abbrev pub Orders : Option ℕ → Path → Path → declared.Order → Type 0
-Orders n p t o = (o.revision ≡ n) × (o.path ≡ p) × (o.target ≡ t)
+abbrev pub Orders : Option ℕ → Path → Path → Bool → declared.Order → Type 0
+Orders n p t b o = (o.revision ≡ n) × (o.path ≡ p) × (o.target ≡ t) × (o.keeps ≡ b)
 
 -- the order that a command is
 abbrev pub IsOrder : Url → Ask → declared.Order → Type 0
-IsOrder at c = Orders (revision_of c) (place_of at c) (target_of c)
+IsOrder at c = Orders (revision_of c) (place_of at c) (target_of c) (keeps c)

@@ -1,43 +1,57 @@
 -- What an edit is made of, as it is in code.
-use Rattle.std.specs.Prelude.{◌≡◌, ℕ, Bool, suc, take, List, [], ◌++◌, Option, Some}
+use Rattle.std.specs.Prelude.{◌≡◌, ℕ, Bool, suc, take, List, [], Option, Some}
 use Rattle.std.specs.FinMap as finite
 use Rattle.std.specs.Io.KnownBytes.{Appends}
 use Rattle.node_base.specs.Path.{Path, same_path}
+use Rattle.node_base.specs.declared.node.Node.{Node}
 use Rattle.tree_changes.specs.Changes.{AreBetween}
 use Rattle.tree_reports.specs.Reports.{content_at}
 use Rattle.browse_wire.specs.Reports.{Report}
 use Rattle.browse_wire.specs.Urls.{Url}
 use Rattle.repo_core.specs.Repository.{Repository}
-use Rattle.ra_serve.specs.Answers.{asked, node_in}
+use Rattle.ra_serve.specs.Answers.{asked}
 use Rattle.ra_update.specs.Sent.{Make}
-use Rattle.ra_report.specs.Orders.{wanted_known}
-use Rattle.ra_report.specs.Reports.{Known, reported, base_of}
-use Rattle.ra_report.specs.Edits.{Edit, wanted, calls, all_props}
+use Rattle.ra_serve.specs.Ports.{tree_of}
+use Rattle.ra_report.specs.Reports.{Having, having, reported, base_of}
+use Rattle.ra_report.specs.Switches.{kept, with_switches}
+use Rattle.ra_report.specs.declared.switched.Switched.{Switched}
+use Rattle.ra_report.specs.Edits.{Edit, wanted, wanted_with, calls, all_props}
 use Rattle.ra_report.specs.declared.plan.Wanted as declared_wanted
 use Rattle.ra_report.specs.declared.plan.WorkingCopy as declared_copy
 use Rattle.ra_report.specs.declared.plan.Plan as declared
 
--- what stands at a place of a revision
-pub record IsWanted (x : Repository) (n : Option ℕ) (place : Path) (w : declared_wanted.Wanted) : Type 0 where
+-- what is wanted of a revision, and all of that
+pub record IsWanted (x : Repository) (n : Option ℕ) (f : Path → Option Node) (w : declared_wanted.Wanted) : Type 0 where
   pub number : w.number ≡ asked x n
-  pub tree : (q : Path) → finite.get w.tree q ≡ node_in x (asked x n) (place ++ q)
+  pub tree : (q : Path) → finite.get w.tree q ≡ f q
+  pub whole : w.whole ≡ tree_of x (asked x n)
 
 -- what is reported, and the revision of the folder
-pub record IsCopy (known : Known) (base : Option ℕ) (c : declared_copy.WorkingCopy) : Type 0 where
-  pub report : (q : Path) → content_at c.report q ≡ known q
+pub record IsCopy (h : Having) (base : Option ℕ) (c : declared_copy.WorkingCopy) : Type 0 where
+  pub has : having (content_at c.report) c.switches.items ≡ h
   pub base_is : Some c.base ≡ base
 
 -- both, and what is told beside them
-pub record IsPlan (x : Repository) (at : Url) (n : Option ℕ) (place t : Path) (rs : List Report) (p : declared.Plan) : Type 0 where
-  pub wants : IsWanted x n place p.wanted
-  pub has : IsCopy (reported x at t (wanted_known x n place) rs) (base_of rs) p.copy
+pub record IsPlan (x : Repository) (at : Url) (n : Option ℕ) (place t : Path) (keeps : Bool) (rs : List Report) (p : declared.Plan) : Type 0 where
+  pub wants : IsWanted x n (wanted_with x n place t keeps (reported x at t rs)) p.wanted
+  pub has : IsCopy (reported x at t rs) (base_of rs) p.copy
   pub tells_root : p.tells_root ≡ same_path t []
   pub identity : p.identity ≡ x.identity
   pub revisions : p.revisions.items ≡ take (suc p.wanted.number) (all_props x)
 
+-- what is wanted with what is switched
+pub record AreKept (ss : List Switched) (old new : declared_wanted.Wanted) : Type 0 where
+  pub number : new.number ≡ old.number
+  pub tree : (q : Path) → finite.get new.tree q ≡ with_switches (finite.get old.tree) old.whole ss q
+  pub whole : new.whole ≡ old.whole
+
 -- of what is wanted, and of what is reported
-abbrev pub IsPlanOf : Repository → Known → Option ℕ → Bool → declared_wanted.Wanted → declared.Plan → Type 0
-IsPlanOf x known base b w p = (p.wanted ≡ w) × IsCopy known base p.copy × (p.identity ≡ x.identity) × (p.revisions.items ≡ take (suc w.number) (all_props x)) × (p.tells_root ≡ b)
+pub record IsPlanOf (x : Repository) (h : Having) (base : Option ℕ) (keeps told : Bool) (w : declared_wanted.Wanted) (p : declared.Plan) : Type 0 where
+  pub wants : AreKept (kept keeps h.switches) w p.wanted
+  pub has : IsCopy h base p.copy
+  pub tells_root : p.tells_root ≡ told
+  pub identity : p.identity ≡ x.identity
+  pub revisions : p.revisions.items ≡ take (suc p.wanted.number) (all_props x)
 
 abbrev pub IsPlanned : Repository → declared_wanted.Wanted → declared_copy.WorkingCopy → Bool → declared.Plan → Type 0
 IsPlanned x w c b p = (p.wanted ≡ w) × (p.copy ≡ c) × (p.identity ≡ x.identity) × (p.revisions.items ≡ take (suc w.number) (all_props x)) × (p.tells_root ≡ b)

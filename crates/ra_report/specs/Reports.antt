@@ -16,13 +16,14 @@ use Rattle.browse_wire.specs.Urls.{Url, url_read}
 use Rattle.browse_wire.specs.declared.depth.Depth.{Depth}
 use Rattle.browse_wire.specs.declared.depth.Depth.TheVariants as depth
 use Rattle.repo_core.specs.Repository.{Repository}
-use Rattle.ra_serve.specs.Answers.{node_in}
 use Rattle.ra_serve.specs.Ports.{tree_of}
 use Rattle.ra_browse.specs.declared.denial.Denial.{Denial}
 use Rattle.ra_browse.specs.declared.denial.Denial.TheVariants as denial
 use Rattle.ra_browse.specs.declared.stop.Stop.{Stop}
 use Rattle.ra_browse.specs.declared.stop.Stop.TheVariants as stop
 use Rattle.ra_browse.specs.Answers.{no_revision, dir_denied, url_denied, moved_to}
+use Rattle.ra_report.specs.Switches.{lies}
+use Rattle.ra_report.specs.declared.switched.Switched.{Switched}
 
 -- what is known at each path
 abbrev pub Known : Type 0
@@ -60,23 +61,34 @@ source_denied x k r source = option_or (no_revision x r.revision) (placing_denie
 abbrev pub with_source : Repository → Known → Reported → Path → Known
 with_source x k r source = placed k r.path (brought r.start_empty (tree_of x r.revision) source)
 
--- ---- the folder, which is reported first
+-- ---- the folder or the target, which is reported first
 
-abbrev pub begin_denied : Repository → Path → Report → Option Denial
-begin_denied x folder (SetPath r) =
-    option_or (fault_if (not (same_path r.path [])) denial.BadReport)
+-- a directory alone
+abbrev pub bare : Known
+bare q = option_map content (alone new_dir q)
+
+-- the folder is a directory, unless it begins empty; where a target is, or nothing, it may begin
+abbrev pub begun_denied : Path → Bool → PathMap → Path → Option Denial
+begun_denied [] empty m source = if empty then None else dir_denied (finite.get m source)
+begun_denied (n ∷ t) empty m source = if is_none (finite.get m source) then None else placing_denied bare (n ∷ t) m source empty
+
+abbrev pub begin_denied : Repository → Url → Path → Report → Option Denial
+begin_denied x at t (SetPath r) =
+    option_or (fault_if (not (same_path r.path t)) denial.BadReport)
     (option_or (shallow_denied r.depth)
-    (option_or (no_revision x r.revision) (if r.start_empty then None else dir_denied (node_in x r.revision folder))))
-begin_denied x folder c = Some denial.BadReport
+    (option_or (fault_if (not (fits (at.1 ++ t))) denial.NoPath)
+    (option_or (no_revision x r.revision) (begun_denied t r.start_empty (tree_of x r.revision) (at.1 ++ t)))))
+begin_denied x at t c = Some denial.BadReport
 
--- a directory alone, or what stands at the folder
-abbrev pub begun : Bool → PathMap → Path → Known
-begun true m folder q = option_map content (alone new_dir q)
-begun false m folder q = brought false m folder q
+-- the folder as it stands there, or a directory alone; a target stands alone in one, with nothing where nothing stands there
+abbrev pub begun : Path → Bool → PathMap → Path → Known
+begun [] true m source = bare
+begun [] false m source = brought false m source
+begun (n ∷ t) empty m source = placed bare (n ∷ t) (brought empty m source)
 
-abbrev pub begin_known : Repository → Path → Report → Known
-begin_known x folder (SetPath r) = begun r.start_empty (tree_of x r.revision) folder
-begin_known x folder c = λ _. None
+abbrev pub begin_known : Repository → Url → Path → Report → Known
+begin_known x at t (SetPath r) = begun t r.start_empty (tree_of x r.revision) (at.1 ++ t)
+begin_known x at t c = λ _. None
 
 -- the revision that it is known at
 abbrev pub base_in : Report → Option ℕ
@@ -85,26 +97,37 @@ base_in c = None
 
 -- ---- a later command
 
-abbrev pub next_denied : Repository → Url → Known → Report → Option Denial
-next_denied x at k (SetPath r) = option_or (shallow_denied r.depth) (option_or (fault_if (not (fits (at.1 ++ r.path))) denial.NoPath) (source_denied x k r (at.1 ++ r.path)))
-next_denied x at k (LinkPath r url) = option_or (shallow_denied r.depth) (option_or (url_denied at (url_read url)) (source_denied x k r (moved_to at (url_read url)).1))
-next_denied x at k (DeletePath p) = fault_if (same_path p []) denial.BadReport
-next_denied x at k FinishReport = Some denial.BadReport
-next_denied x at k AbortReport = Some denial.BadReport
+-- what is known at each path, and what is switched
+pub record Having : Type 0 where
+  pub known : Known
+  pub switches : List Switched
 
-abbrev pub next_known : Repository → Url → Known → Report → Known
-next_known x at k (SetPath r) = with_source x k r (at.1 ++ r.path)
-next_known x at k (LinkPath r url) = with_source x k r (moved_to at (url_read url)).1
-next_known x at k (DeletePath p) = placed k p (λ _. None)
-next_known x at k FinishReport = k
-next_known x at k AbortReport = k
+abbrev pub having : Known → List Switched → Having
+having k ss = record { known = k; switches = ss }
+
+-- where a path lies
+abbrev pub lying : Url → Having → Path → Path
+lying at h p = lies p (at.1 ++ p) h.switches
+
+abbrev pub next_denied : Repository → Url → Having → Report → Option Denial
+next_denied x at h (SetPath r) = option_or (shallow_denied r.depth) (option_or (fault_if (not (fits (lying at h r.path))) denial.NoPath) (source_denied x h.known r (lying at h r.path)))
+next_denied x at h (LinkPath r url) = option_or (shallow_denied r.depth) (option_or (url_denied at (url_read url)) (source_denied x h.known r (moved_to at (url_read url)).1))
+next_denied x at h (DeletePath p) = fault_if (same_path p []) denial.BadReport
+next_denied x at h FinishReport = Some denial.BadReport
+next_denied x at h AbortReport = Some denial.BadReport
+
+-- a path that a place stands at
+abbrev pub switched : Path → Path → Switched
+switched p place = record { path = p; place = place }
+
+abbrev pub next : Repository → Url → Having → Report → Having
+next x at h (SetPath r) = having (with_source x h.known r (lying at h r.path)) h.switches
+next x at h (LinkPath r url) = having (with_source x h.known r (moved_to at (url_read url)).1) (h.switches ++ switched r.path (moved_to at (url_read url)).1 ∷ [])
+next x at h (DeletePath p) = having (placed h.known p (λ _. None)) h.switches
+next x at h FinishReport = h
+next x at h AbortReport = h
 
 -- ---- a target
-
--- the first command is the target's own, of a revision that is there
-abbrev pub opens_denied : Repository → Report → Option Denial
-opens_denied x (SetPath r) = option_or (fault_if (not (same_path r.path [])) denial.BadReport) (no_revision x r.revision)
-opens_denied x c = Some denial.BadReport
 
 -- a path behind a target; a lock's token counts for nothing
 abbrev pub behind : Path → Reported → Reported
@@ -132,40 +155,30 @@ aims_denied t (c ∷ cs) = option_or (aim_denied t c) (aims_denied t cs)
 
 -- ---- all of them
 
-abbrev pub later_denied : Repository → Url → Known → List Report → Option Denial
-later_denied x at k [] = None
-later_denied x at k (c ∷ cs) = option_or (next_denied x at k c) (later_denied x at (next_known x at k c) cs)
+abbrev pub later_denied : Repository → Url → Having → List Report → Option Denial
+later_denied x at h [] = None
+later_denied x at h (c ∷ cs) = option_or (next_denied x at h c) (later_denied x at (next x at h c) cs)
 
-abbrev pub later_known : Repository → Url → Known → List Report → Known
-later_known x at k [] = k
-later_known x at k (c ∷ cs) = later_known x at (next_known x at k c) cs
+abbrev pub later : Repository → Url → Having → List Report → Having
+later x at h [] = h
+later x at h (c ∷ cs) = later x at (next x at h c) cs
 
--- a report of the folder
-abbrev pub whole_denied : Repository → Url → List Report → Option Denial
-whole_denied x at [] = Some denial.BadReport
-whole_denied x at (c ∷ cs) = option_or (begin_denied x at.1 c) (later_denied x at (begin_known x at.1 c) cs)
+-- of commands with their paths behind a target
+abbrev pub whole_denied : Repository → Url → Path → List Report → Option Denial
+whole_denied x at t [] = Some denial.BadReport
+whole_denied x at t (c ∷ cs) = option_or (begin_denied x at t c) (later_denied x at (having (begin_known x at t c) []) cs)
 
-abbrev pub whole_known : Repository → Url → List Report → Known
-whole_known x at [] = λ _. None
-whole_known x at (c ∷ cs) = later_known x at (begin_known x at.1 c) cs
-
--- a report of a target: its commands are taken over what is wanted, so that nothing else differs
-abbrev pub part_denied : Repository → Url → Path → Known → List Report → Option Denial
-part_denied x at t w [] = Some denial.BadReport
-part_denied x at t w (c ∷ cs) = option_or (opens_denied x c) (option_or (aims_denied t (c ∷ cs)) (later_denied x at w (map (aimed t) (c ∷ cs))))
-
-abbrev pub part_known : Repository → Url → Path → Known → List Report → Known
-part_known x at t w cs = later_known x at w (map (aimed t) cs)
+abbrev pub whole : Repository → Url → Path → List Report → Having
+whole x at t [] = having (λ _. None) []
+whole x at t (c ∷ cs) = later x at (having (begin_known x at t c) []) cs
 
 -- why a report isn't taken
-abbrev pub reports_denied : Repository → Url → Path → Known → List Report → Option Denial
-reports_denied x at [] w cs = whole_denied x at cs
-reports_denied x at (n ∷ t) w cs = part_denied x at (n ∷ t) w cs
+abbrev pub reports_denied : Repository → Url → Path → List Report → Option Denial
+reports_denied x at t cs = option_or (aims_denied t cs) (whole_denied x at t (map (aimed t) cs))
 
--- what is reported at each path
-abbrev pub reported : Repository → Url → Path → Known → List Report → Known
-reported x at [] w cs = whole_known x at cs
-reported x at (n ∷ t) w cs = part_known x at (n ∷ t) w cs
+-- what is reported
+abbrev pub reported : Repository → Url → Path → List Report → Having
+reported x at t cs = whole x at t (map (aimed t) cs)
 
 abbrev pub base_of : List Report → Option ℕ
 base_of [] = None

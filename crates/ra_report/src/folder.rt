@@ -1,47 +1,113 @@
-//! What stands at a folder of a revision.
+//! What stands at a place of a revision.
 
-ghost use Rattle.std.specs.Prelude.{◌≡◌, ◌++◌, None};
+ghost use Rattle.std.specs.Prelude.{◌≡◌, ◌++◌, [], true, false, IfOk};
 ghost use Rattle.std.specs.FinMap as finite;
-ghost use Rattle.node_base.specs.Path.{Path};
+ghost use Rattle.dump_load.specs.Faults.{fault_if};
+ghost use Rattle.node_base.specs.Path.{Path, same_path};
+ghost use Rattle.node_base.specs.Tree.{alone, grafted, new_dir};
+ghost use Rattle.path_tree.specs.Copies.{copy_too_long};
 ghost use Rattle.ra_browse.specs.Answers.{dir_denied};
 ghost use Rattle.ra_browse.specs.Tellings.{Decides, Finds, PortStays};
-ghost use Rattle.ra_report.specs.Orders.{wanted_denied};
+ghost use Rattle.ra_browse.specs.declared.denial.Denial.TheVariants.{Unsupported};
+ghost use Rattle.ra_report.specs.Orders.{is_short, place_denied, wanted_denied, wanted_in};
 ghost use Rattle.ra_report.specs.Plans.{IsWanted};
 
+use crate::graft::put_copy;
+use crate::order::is_short;
 use crate::plan::Wanted;
 use node_base::{NodePath, RevNo};
 use path_tree::Tree;
 use ra_browse::{Denial, Stop, stopped, tree_asked};
 use ra_serve::RepoPort;
-use std::alloc::Global;
+use std::alloc::{AllocError, Global};
 use tree_reports::subtree;
 
-/// What stands at a folder of a revision, the newest where none is named.
+/// What stands at a place of a revision, the newest where none is named: the folder, or what stands at the target's name.
 pub fn look_up<P: RepoPort>(
     alloc: Global,
     port: &mut P,
     revision: Option<u64>,
-    folder: &NodePath,
+    place: &NodePath,
+    target: &NodePath,
 ) -> Result<Wanted, Stop>
-    ensures found { Finds P.repository P.refusals (λ x. wanted_denied x revision folder.now)
-        (λ x w. IsWanted x revision folder.now w) port.old port.new result }
+    ensures found { Finds P.repository P.refusals (λ x. wanted_denied x revision place.now target.now)
+        (λ x w. IsWanted x revision (wanted_in x revision place.now target.now) w) port.old port.new result }
     ensures stays { PortStays P.repository P.refusals P.is_mirror port.old port.new }
 {
     match tree_asked(port, revision) {
-        Ok((number, tree)) => wanted_in(alloc, number, &tree, folder),
+        Ok((number, tree)) => wanted_in(alloc, number, tree, place, target),
         Err(fault) => Err(stopped(fault)),
     }
 }
 
 // The same of its tree.
-fn wanted_in(alloc: Global, number: RevNo, tree: &Tree, folder: &NodePath) -> Result<Wanted, Stop>
-    ensures { Decides (dir_denied (finite.get tree.now folder.now))
-        (λ w. (w.number ≡ number) × ((q : Path) → finite.get w.tree q ≡ finite.get tree.now (folder.now ++ q))) result }
+fn wanted_in(
+    alloc: Global,
+    number: RevNo,
+    whole: Tree,
+    place: &NodePath,
+    target: &NodePath,
+) -> Result<Wanted, Stop>
+    ensures { Decides (place_denied whole place.now target.now) (λ w. (w.number ≡ number) × (w.whole ≡ whole)
+        × ((q : Path) → finite.get w.tree q
+        ≡ grafted (alone new_dir) target.now (λ r. finite.get whole (place.now ++ r)) q)) result }
 {
-    match tree_at(alloc, tree, folder) {
-        Ok(tree) => Ok(Wanted { number, tree }),
+    match part_at(alloc, &whole, place, target) {
+        Ok(tree) => Ok(Wanted {
+            number,
+            tree,
+            whole,
+        }),
         Err(stop) => Err(stop),
     }
+}
+
+// The same as a tree of its own.
+fn part_at(alloc: Global, tree: &Tree, place: &NodePath, target: &NodePath) -> Result<Tree, Stop>
+    ensures { Decides (place_denied tree.now place.now target.now) (λ t. (q : Path) → finite.get t q
+        ≡ grafted (alone new_dir) target.now (λ r. finite.get tree.now (place.now ++ r)) q) result }
+{
+    if target.is_root() {
+        return tree_at(alloc, tree, place);
+    }
+    if !is_short(target) {
+        return Err(Stop::Denied(Denial::Unsupported));
+    }
+    named(alloc, tree, place, target)
+}
+
+// What stands at a place, at a target's name in a folder that has nothing else.
+fn named(alloc: Global, tree: &Tree, place: &NodePath, target: &NodePath) -> Result<Tree, Stop>
+    requires below_root { same_path target.now [] ≡ false }
+    requires short { is_short target.now ≡ true }
+    ensures { Decides (fault_if (copy_too_long tree.now place.now target.now) Unsupported) (λ t. (q : Path) → finite.get t q
+        ≡ grafted (alone new_dir) target.now (λ r. finite.get tree.now (place.now ++ r)) q) result }
+{
+    if tree.copy_is_too_long(place.names(), target.names()) {
+        return Err(Stop::Denied(Denial::Unsupported));
+    }
+    match alone_in(alloc, tree, place, target) {
+        Ok(tree) => Ok(tree),
+        Err(_) => Err(Stop::OutOfMemory),
+    }
+}
+
+// The same where it is within the limits.
+fn alone_in(
+    alloc: Global,
+    tree: &Tree,
+    place: &NodePath,
+    target: &NodePath,
+) -> Result<Tree, AllocError>
+    requires below_root { same_path target.now [] ≡ false }
+    requires short { is_short target.now ≡ true }
+    requires small { copy_too_long tree.now place.now target.now ≡ false }
+    ensures { IfOk result (λ t. (q : Path) → finite.get t q
+        ≡ grafted (alone new_dir) target.now (λ r. finite.get tree.now (place.now ++ r)) q) }
+{
+    let mut top = Tree::empty(alloc)?;
+    put_copy(alloc, &mut top, target, tree, place)?;
+    Ok(top)
 }
 
 /// A folder of a tree as a tree of its own.

@@ -4,7 +4,8 @@
 //! are then collected, and [`finish`] answers them all: it sends the edit from what was reported to what is wanted, or
 //! tells why there is none.
 //!
-//! `specs/Orders` has what a command wants, `specs/Reports` what a report says, and `specs/Edits` what it is answered.
+//! `specs/Orders` has what a command wants, `specs/Reports` what a report says, `specs/Switches` what is wanted where something
+//! is switched, and `specs/Edits` what a report is answered.
 #![tactic(auto)]
 
 pub use answer::finish;
@@ -13,10 +14,12 @@ pub use order::{awaits_report, ordered};
 mod aim;
 mod answer;
 mod folder;
+mod follow;
+mod graft;
 mod order;
-mod part;
 mod plan;
 mod report;
 mod revisions;
 mod send;
+mod switched;
 mod take;

@@ -1,30 +1,31 @@
 //! What a command that a report follows wants.
 
-ghost use Rattle.std.specs.Prelude.{◌≡◌, [], false, Some, None};
-ghost use Rattle.std.specs.Option.{option_map_or, option_or};
+ghost use Rattle.std.specs.Prelude.{◌≡◌, ◌++◌, true, false, None};
 ghost use Rattle.browse_wire.specs.Asks.{ask_as};
 ghost use Rattle.browse_wire.specs.Depths.{word_of};
 ghost use Rattle.browse_wire.specs.Urls.{url_read};
-ghost use Rattle.node_base.specs.Path.{same_path};
 ghost use Rattle.ra_browse.specs.Answers.{url_denied, moved_to};
 ghost use Rattle.ra_browse.specs.Tellings.{place_as, url_stop, Decides};
-ghost use Rattle.ra_report.specs.Orders.{awaits_report, goes_all, is_short, part_denied, is_target, elsewhere_denied};
-ghost use Rattle.ra_report.specs.Orders.{folder_of, order_denied, url_order_denied, IsOrder, Orders};
+ghost use Rattle.ra_report.specs.Orders.{awaits_report, goes_all, here_denied, is_short, part_denied, there_denied};
+ghost use Rattle.ra_report.specs.Orders.{order_denied, IsOrder, Orders};
 
+use crate::take::path_in;
 use browse_wire::ask::BrowseCommand;
 use browse_wire::depth::Depth;
 use browse_wire::url::{SessionUrl, UrlFault};
-use node_base::{NodePath, compare_paths, rest_after};
+use node_base::NodePath;
 use ra_browse::{Denial, Stop};
 use std::alloc::Global;
 
 /// What is wanted: what stands at a path from the repository's root, in a revision, or in the newest where none is named.
-/// A target is what of it is wanted alone, and the root where all is.
+/// A target is its name in the folder that a working copy has, and the root where it is that folder.
 #[derive(Drop)]
 pub struct Order {
     pub revision: Option<u64>,
     pub path: NodePath,
     pub target: NodePath,
+    /// Whether what is switched stays so.
+    pub keeps: bool,
 }
 
 /// Whether a report follows a command.
@@ -41,8 +42,8 @@ pub fn awaits_report(command: &BrowseCommand) -> bool
 }
 
 /// Why no report follows a command: it isn't one that a report follows, or it wants a part of the folder that isn't one
-/// name with all below it, or what stands at a URL that isn't below the session's root, or of a name what stands at another
-/// URL than the name's own. No repository is asked.
+/// name with all below it, or what stands at a URL that isn't below the session's root, or at a path past the limits. No
+/// repository is asked.
 pub fn ordered(alloc: Global, place: &SessionUrl, command: &BrowseCommand) -> Result<(), Stop>
     ensures { Decides (order_denied (place_as place.now) (ask_as command.now)) (λ _. Unit {0}) result }
 {
@@ -92,14 +93,15 @@ fn here(
     depth: Option<Depth>,
     revision: Option<u64>,
 ) -> Result<Order, Stop>
-    ensures { Decides (part_denied target.now (word_of depth)) (Orders revision place.now.path target.now) result }
+    ensures { Decides (here_denied (place_as place.now) target.now (word_of depth))
+        (Orders revision (place.now.path ++ target.now) target.now true) result }
 {
     if let Some(why) = part_denied(target, depth) {
         return Err(Stop::Denied(why));
     }
-    match place.path.copy(alloc) {
-        Ok(path) => order_at(alloc, revision, path, target),
-        Err(_) => Err(Stop::OutOfMemory),
+    match path_in(alloc, &place.path, target) {
+        Ok(path) => order_at(alloc, revision, path, target, true),
+        Err(stop) => Err(stop),
     }
 }
 
@@ -109,14 +111,16 @@ fn order_at(
     revision: Option<u64>,
     path: NodePath,
     target: &NodePath,
+    keeps: bool,
 ) -> Result<Order, Stop>
-    ensures { Decides None (Orders revision path target.now) result }
+    ensures { Decides None (Orders revision path target.now keeps) result }
 {
     match target.copy(alloc) {
         Ok(target) => Ok(Order {
             revision,
             path,
             target,
+            keeps,
         }),
         Err(_) => Err(Stop::OutOfMemory),
     }
@@ -131,62 +135,15 @@ fn there(
     url: &[u8],
     revision: Option<u64>,
 ) -> Result<Order, Stop>
-    ensures { Decides (option_or (part_denied target.now (word_of depth)) (url_order_denied (place_as place.now) target.now url.now))
-        (Orders revision (folder_of place.now.path target.now (moved_to (place_as place.now) (url_read url.now)).1) target.now) result }
+    ensures { Decides (there_denied (place_as place.now) target.now (word_of depth) url.now)
+        (Orders revision (moved_to (place_as place.now) (url_read url.now)).1 target.now false) result }
 {
     if let Some(why) = part_denied(target, depth) {
         return Err(Stop::Denied(why));
     }
-    at_url(alloc, place, target, url, revision)
-}
-
-// The same of a target that is offered.
-fn at_url(
-    alloc: Global,
-    place: &SessionUrl,
-    target: &NodePath,
-    url: &[u8],
-    revision: Option<u64>,
-) -> Result<Order, Stop>
-    ensures { Decides (url_order_denied (place_as place.now) target.now url.now)
-        (Orders revision (folder_of place.now.path target.now (moved_to (place_as place.now) (url_read url.now)).1) target.now) result }
-{
     match path_at(alloc, place, url) {
-        Ok(path) => in_folder(alloc, &place.path, target, path, revision),
+        Ok(path) => order_at(alloc, revision, path, target, false),
         Err(stop) => Err(stop),
-    }
-}
-
-// The same of the URL's path.
-fn in_folder(
-    alloc: Global,
-    here: &NodePath,
-    target: &NodePath,
-    there: NodePath,
-    revision: Option<u64>,
-) -> Result<Order, Stop>
-    ensures { Decides (elsewhere_denied here.now target.now there)
-        (Orders revision (folder_of here.now target.now there) target.now) result }
-{
-    if target.is_root() {
-        return order_at(alloc, revision, there, target);
-    }
-    if !is_target(here, target, &there) {
-        return Err(Stop::Denied(Denial::Unsupported));
-    }
-    match here.copy(alloc) {
-        Ok(path) => order_at(alloc, revision, path, target),
-        Err(_) => Err(Stop::OutOfMemory),
-    }
-}
-
-// Whether a path is a target in a folder.
-fn is_target(here: &NodePath, target: &NodePath, there: &NodePath) -> bool
-    ensures { result ≡ is_target here.now target.now there.now }
-{
-    match rest_after(here.names(), there.names()) {
-        Some(rest) => compare_paths(rest, target.names()).is_eq(),
-        None => false,
     }
 }
 
@@ -200,8 +157,8 @@ fn part_denied(target: &NodePath, depth: Option<Depth>) -> Option<Denial>
     Some(Denial::Unsupported)
 }
 
-// Whether a target is the folder, or one name in it.
-fn is_short(target: &NodePath) -> bool
+/// Whether a target is the folder, or one name in it.
+pub fn is_short(target: &NodePath) -> bool
     ensures { result ≡ is_short target.now }
 {
     match target.names() {

@@ -1,26 +1,30 @@
 //! What an edit is made of.
 
-ghost use Rattle.std.specs.Prelude.{◌≡◌, [], map};
+ghost use Rattle.std.specs.Prelude.{◌≡◌, [], map, Some};
 ghost use Rattle.std.specs.Option.{option_or};
 ghost use Rattle.browse_wire.specs.Asks.{ask_as};
 ghost use Rattle.browse_wire.specs.Reports.{report_as};
 ghost use Rattle.node_base.specs.Path.{same_path};
 ghost use Rattle.ra_browse.specs.Answers.{no_revision};
-ghost use Rattle.tree_reports.specs.Reports.{content_at};
 ghost use Rattle.ra_browse.specs.Tellings.{place_as, Finds, PortStays};
-ghost use Rattle.ra_report.specs.Edits.{report_denied};
-ghost use Rattle.ra_report.specs.Orders.{revision_of, place_of, target_of, wanted_denied, wanted_known};
+ghost use Rattle.ra_report.specs.Edits.{edit_denied, report_denied};
+ghost use Rattle.ra_report.specs.Orders.{keeps, revision_of, place_of, target_of};
 ghost use Rattle.ra_report.specs.Plans.{IsPlan, IsPlanOf, IsPlanned};
-ghost use Rattle.ra_report.specs.Reports.{reports_denied, reported, base_of};
+ghost use Rattle.ra_report.specs.Reports.{having, reports_denied, reported, base_of};
+ghost use Rattle.ra_report.specs.Switches.{kept, switches_denied};
+ghost use Rattle.std.specs.FinMap as finite;
+ghost use Rattle.tree_reports.specs.Reports.{content_at};
 
 use crate::folder::look_up;
+use crate::follow::{follow, kept};
 use crate::order::{Order, order_of};
 use crate::report::working_copy;
 use crate::revisions::props_up_to;
+use crate::switched::Switched;
 use browse_wire::ask::BrowseCommand;
 use browse_wire::report::ReportCommand;
 use browse_wire::url::SessionUrl;
-use node_base::{NodePath, Props, RevNo};
+use node_base::{Props, RevNo};
 use path_tree::Tree;
 use ra_browse::Stop;
 use ra_serve::RepoPort;
@@ -28,17 +32,20 @@ use std::alloc::Global;
 use tree_reports::Report;
 use uuid::Uuid;
 
-/// What is wanted: a revision, and what stands at a folder of it.
+/// What is wanted: a revision, and what stands at a place of it, as the folder or in one.
 #[derive(Drop)]
 pub struct Wanted {
     pub number: RevNo,
     pub tree: Tree,
+    /// All of the revision.
+    pub whole: Tree,
 }
 
-/// What a working copy has below its folder, and the revision that the folder is known at.
+/// What a working copy has below its folder, what is switched there, and the revision that the folder is known at.
 #[derive(Drop)]
 pub struct WorkingCopy {
     pub report: Report,
+    pub switches: Vec<Switched>,
     pub base: RevNo,
 }
 
@@ -65,7 +72,8 @@ pub fn plan_of<P: RepoPort>(
     ensures found { Finds P.repository P.refusals
         (λ x. report_denied x (place_as place.now) (ask_as command.now) (map report_as report.now))
         (λ x p. IsPlan x (place_as place.now) (revision_of (ask_as command.now))
-        (place_of (place_as place.now) (ask_as command.now)) (target_of (ask_as command.now)) (map report_as report.now) p) port.old port.new result }
+        (place_of (place_as place.now) (ask_as command.now)) (target_of (ask_as command.now)) (keeps (ask_as command.now))
+        (map report_as report.now) p) port.old port.new result }
     ensures stays { PortStays P.repository P.refusals P.is_mirror port.old port.new }
 {
     match order_of(alloc, place, command) {
@@ -82,15 +90,15 @@ fn plan_for<P: RepoPort>(
     order: &Order,
     report: &[ReportCommand],
 ) -> Result<Plan, Stop>
-    ensures found { Finds P.repository P.refusals (λ x. option_or (wanted_denied x order.now.revision order.now.path)
-        (reports_denied x (place_as place.now) order.now.target (wanted_known x order.now.revision order.now.path)
-        (map report_as report.now)))
-        (λ x p. IsPlan x (place_as place.now) order.now.revision order.now.path order.now.target (map report_as report.now) p)
-        port.old port.new result }
+    ensures found { Finds P.repository P.refusals
+        (λ x. edit_denied x (place_as place.now) order.now.revision order.now.path order.now.target order.now.keeps
+        (map report_as report.now))
+        (λ x p. IsPlan x (place_as place.now) order.now.revision order.now.path order.now.target order.now.keeps
+        (map report_as report.now) p) port.old port.new result }
     ensures stays { PortStays P.repository P.refusals P.is_mirror port.old port.new }
 {
-    match look_up(alloc, port, order.revision, &order.path) {
-        Ok(wanted) => plan_from(alloc, port, place, &order.target, wanted, report),
+    match look_up(alloc, port, order.revision, &order.path, &order.target) {
+        Ok(wanted) => plan_from(alloc, port, place, order, wanted, report),
         Err(stop) => Err(stop),
     }
 }
@@ -100,20 +108,42 @@ fn plan_from<P: RepoPort>(
     alloc: Global,
     port: &mut P,
     place: &SessionUrl,
-    target: &NodePath,
+    order: &Order,
     wanted: Wanted,
     report: &[ReportCommand],
 ) -> Result<Plan, Stop>
     ensures found { Finds P.repository P.refusals
-        (λ x. option_or (reports_denied x (place_as place.now) target.now (content_at wanted.tree) (map report_as report.now))
-        (no_revision x wanted.number))
-        (λ x p. IsPlanOf x (reported x (place_as place.now) target.now (content_at wanted.tree) (map report_as report.now))
-        (base_of (map report_as report.now)) (same_path target.now []) wanted p)
+        (λ x. option_or (reports_denied x (place_as place.now) order.now.target (map report_as report.now))
+        (option_or (switches_denied (finite.get wanted.tree) wanted.whole (kept order.now.keeps
+        (reported x (place_as place.now) order.now.target (map report_as report.now)).switches)) (no_revision x wanted.number)))
+        (λ x p. IsPlanOf x (reported x (place_as place.now) order.now.target (map report_as report.now))
+        (base_of (map report_as report.now)) order.now.keeps (same_path order.now.target []) wanted p)
         port.old port.new result }
     ensures stays { PortStays P.repository P.refusals P.is_mirror port.old port.new }
 {
-    match working_copy(alloc, port, place, target, &wanted.tree, report) {
-        Ok(copy) => planned(alloc, port, wanted, copy, target.is_root()),
+    match working_copy(alloc, port, place, &order.target, report) {
+        Ok(copy) => plan_with(alloc, port, order, wanted, copy),
+        Err(stop) => Err(stop),
+    }
+}
+
+// The same of what is reported.
+fn plan_with<P: RepoPort>(
+    alloc: Global,
+    port: &mut P,
+    order: &Order,
+    wanted: Wanted,
+    copy: WorkingCopy,
+) -> Result<Plan, Stop>
+    ensures found { Finds P.repository P.refusals
+        (λ x. option_or (switches_denied (finite.get wanted.tree) wanted.whole (kept order.now.keeps copy.switches.items))
+        (no_revision x wanted.number))
+        (λ x p. IsPlanOf x (having (content_at copy.report) copy.switches.items) (Some copy.base) order.now.keeps
+        (same_path order.now.target []) wanted p) port.old port.new result }
+    ensures stays { PortStays P.repository P.refusals P.is_mirror port.old port.new }
+{
+    match follow(alloc, wanted, kept(order.keeps, copy.switches.as_slice())) {
+        Ok(wanted) => planned(alloc, port, wanted, copy, order.target.is_root()),
         Err(stop) => Err(stop),
     }
 }

@@ -1,23 +1,27 @@
 //! What a working copy reports.
 
-ghost use Rattle.std.specs.Prelude.{◌≡◌, map, Some, None, if◌then◌else◌};
+ghost use Rattle.std.specs.Prelude.{◌≡◌, [], map, Some, None, false, is_none, if◌then◌else◌};
 ghost use Rattle.std.specs.Option.{option_or};
-ghost use Rattle.node_base.specs.Path.{Path};
-ghost use Rattle.tree_reports.specs.Reports.{content_at};
+ghost use Rattle.dump_load.specs.Faults.{fault_if};
+ghost use Rattle.node_base.specs.Limits.{fits};
+ghost use Rattle.std.specs.Prelude.{◌++◌, not};
+ghost use Rattle.node_base.specs.Path.{Path, same_path};
+ghost use Rattle.tree_reports.specs.Reports.{brought, content_at, placed};
 ghost use Rattle.browse_wire.specs.Reports.{report_as, reported_as, SetPath};
-ghost use Rattle.ra_serve.specs.Answers.{node_in};
 ghost use Rattle.ra_serve.specs.Ports.{tree_of};
 ghost use Rattle.ra_browse.specs.Answers.{dir_denied, no_revision};
 ghost use Rattle.ra_browse.specs.Tellings.{place_as, Decides, Finds, PortStays};
+ghost use Rattle.ra_browse.specs.declared.denial.Denial.TheVariants.{NoPath};
 ghost use Rattle.std.specs.FinMap as finite;
 ghost use Rattle.ra_report.specs.Plans.{IsCopy};
-ghost use Rattle.ra_report.specs.Reports.{begin_denied, begin_known, begun, base_in, base_of};
-ghost use Rattle.ra_report.specs.Reports.{later_denied, later_known, reports_denied, reported, whole_denied, whole_known};
+ghost use Rattle.ra_report.specs.Reports.{bare, begin_denied, begin_known, begun, begun_denied, base_in, base_of, placing_denied};
+ghost use Rattle.ra_report.specs.Reports.{having, later, later_denied, reports_denied, reported, whole, whole_denied};
 
+use crate::aim::aimed_all;
 use crate::folder::tree_at;
-use crate::part::part;
 use crate::plan::WorkingCopy;
-use crate::take::{shallow_denied, take};
+use crate::switched::Switched;
+use crate::take::{bring_from, path_in, shallow_denied, take};
 use browse_wire::report::{ReportCommand, Reported};
 use browse_wire::url::SessionUrl;
 use node_base::{NodePath, RevNo};
@@ -27,63 +31,64 @@ use ra_serve::RepoPort;
 use std::alloc::Global;
 use tree_reports::Report;
 
-/// What is reported, of a target over what is wanted.
+/// What is reported, of the folder or of a target in it.
 pub fn working_copy<P: RepoPort>(
     alloc: Global,
     port: &mut P,
     place: &SessionUrl,
     target: &NodePath,
-    wanted: &Tree,
     report: &[ReportCommand],
 ) -> Result<WorkingCopy, Stop>
     ensures found { Finds P.repository P.refusals
-        (λ x. reports_denied x (place_as place.now) target.now (content_at wanted.now) (map report_as report.now))
-        (λ x c. IsCopy (reported x (place_as place.now) target.now (content_at wanted.now) (map report_as report.now))
+        (λ x. reports_denied x (place_as place.now) target.now (map report_as report.now))
+        (λ x c. IsCopy (reported x (place_as place.now) target.now (map report_as report.now))
         (base_of (map report_as report.now)) c) port.old port.new result }
     ensures stays { PortStays P.repository P.refusals P.is_mirror port.old port.new }
 {
-    if target.is_root() {
-        return whole(alloc, port, place, report);
+    match aimed_all(alloc, target, report) {
+        Ok(all) => whole(alloc, port, place, target, all.as_slice()),
+        Err(stop) => Err(stop),
     }
-    part(alloc, port, place, target, wanted, report)
 }
 
-// What is reported of the folder.
+// The same of commands with their paths behind the target.
 fn whole<P: RepoPort>(
     alloc: Global,
     port: &mut P,
     place: &SessionUrl,
+    target: &NodePath,
     report: &[ReportCommand],
 ) -> Result<WorkingCopy, Stop>
     ensures found { Finds P.repository P.refusals
-        (λ x. whole_denied x (place_as place.now) (map report_as report.now))
-        (λ x c. IsCopy (whole_known x (place_as place.now) (map report_as report.now)) (base_of (map report_as report.now)) c)
-        port.old port.new result }
+        (λ x. whole_denied x (place_as place.now) target.now (map report_as report.now))
+        (λ x c. IsCopy (whole x (place_as place.now) target.now (map report_as report.now))
+        (base_of (map report_as report.now)) c) port.old port.new result }
     ensures stays { PortStays P.repository P.refusals P.is_mirror port.old port.new }
 {
     let Some((first, rest)) = report.split_first() else {
         return Err(Stop::Denied(Denial::BadReport));
     };
-    match begun(alloc, port, &place.path, first) {
+    match begun(alloc, port, place, target, first) {
         Ok(copy) => go_on(alloc, port, place, copy, rest),
         Err(stop) => Err(stop),
     }
 }
 
-// The folder, by the first command.
+// The folder or the target, by the first command.
 fn begun<P: RepoPort>(
     alloc: Global,
     port: &mut P,
-    folder: &NodePath,
+    place: &SessionUrl,
+    target: &NodePath,
     command: &ReportCommand,
 ) -> Result<WorkingCopy, Stop>
-    ensures found { Finds P.repository P.refusals (λ x. begin_denied x folder.now (report_as command.now))
-        (λ x c. IsCopy (begin_known x folder.now (report_as command.now)) (base_in (report_as command.now)) c)
+    ensures found { Finds P.repository P.refusals (λ x. begin_denied x (place_as place.now) target.now (report_as command.now))
+        (λ x c. IsCopy (having (begin_known x (place_as place.now) target.now (report_as command.now)) []) (base_in (report_as command.now)) c)
         port.old port.new result }
     ensures stays { PortStays P.repository P.refusals P.is_mirror port.old port.new }
 {
     match command {
-        ReportCommand::SetPath(path) => begun_by(alloc, port, folder, path),
+        ReportCommand::SetPath(path) => begun_by(alloc, port, place, target, path),
         _ => Err(Stop::Denied(Denial::BadReport)),
     }
 }
@@ -92,38 +97,70 @@ fn begun<P: RepoPort>(
 fn begun_by<P: RepoPort>(
     alloc: Global,
     port: &mut P,
-    folder: &NodePath,
+    place: &SessionUrl,
+    target: &NodePath,
     path: &Reported,
 ) -> Result<WorkingCopy, Stop>
-    ensures found { Finds P.repository P.refusals (λ x. begin_denied x folder.now (SetPath (reported_as path.now)))
-        (λ x c. IsCopy (begin_known x folder.now (SetPath (reported_as path.now)))
+    ensures found { Finds P.repository P.refusals
+        (λ x. begin_denied x (place_as place.now) target.now (SetPath (reported_as path.now)))
+        (λ x c. IsCopy (having (begin_known x (place_as place.now) target.now (SetPath (reported_as path.now))) [])
         (base_in (SetPath (reported_as path.now))) c) port.old port.new result }
     ensures stays { PortStays P.repository P.refusals P.is_mirror port.old port.new }
 {
-    if !path.path.is_root() {
+    if !path.path.compare(target).is_eq() {
         return Err(Stop::Denied(Denial::BadReport));
     }
     if let Some(why) = shallow_denied(path.depth) {
         return Err(Stop::Denied(why));
     }
-    begun_at(alloc, port, folder, path.revision, path.start_empty)
+    begun_here(
+        alloc,
+        port,
+        &place.path,
+        target,
+        path.revision,
+        path.start_empty,
+    )
 }
 
-// The same by a revision.
+// The same where the session stands.
+fn begun_here<P: RepoPort>(
+    alloc: Global,
+    port: &mut P,
+    here: &NodePath,
+    target: &NodePath,
+    revision: u64,
+    empty: bool,
+) -> Result<WorkingCopy, Stop>
+    ensures found { Finds P.repository P.refusals (λ x. option_or (fault_if (not (fits (here.now ++ target.now))) NoPath)
+        (option_or (no_revision x revision) (begun_denied target.now empty (tree_of x revision) (here.now ++ target.now))))
+        (λ x c. IsCopy (having (begun target.now empty (tree_of x revision) (here.now ++ target.now)) []) (Some revision) c)
+        port.old port.new result }
+    ensures stays { PortStays P.repository P.refusals P.is_mirror port.old port.new }
+{
+    match path_in(alloc, here, target) {
+        Ok(source) => begun_at(alloc, port, &source, target, revision, empty),
+        Err(stop) => Err(stop),
+    }
+}
+
+// The same at a source.
 fn begun_at<P: RepoPort>(
     alloc: Global,
     port: &mut P,
-    folder: &NodePath,
+    source: &NodePath,
+    target: &NodePath,
     revision: u64,
     empty: bool,
 ) -> Result<WorkingCopy, Stop>
     ensures found { Finds P.repository P.refusals (λ x. option_or (no_revision x revision)
-        (if empty then None else dir_denied (node_in x revision folder.now)))
-        (λ x c. IsCopy (begun empty (tree_of x revision) folder.now) (Some revision) c) port.old port.new result }
+        (begun_denied target.now empty (tree_of x revision) source.now))
+        (λ x c. IsCopy (having (begun target.now empty (tree_of x revision) source.now) []) (Some revision) c)
+        port.old port.new result }
     ensures stays { PortStays P.repository P.refusals P.is_mirror port.old port.new }
 {
     match tree_asked(port, Some(revision)) {
-        Ok((base, tree)) => begun_with(alloc, base, &tree, folder, empty),
+        Ok((base, tree)) => begun_with(alloc, base, &tree, source, target, empty),
         Err(fault) => Err(stopped(fault)),
     }
 }
@@ -133,22 +170,45 @@ fn begun_with(
     alloc: Global,
     base: RevNo,
     tree: &Tree,
-    folder: &NodePath,
+    source: &NodePath,
+    target: &NodePath,
     empty: bool,
 ) -> Result<WorkingCopy, Stop>
-    ensures { Decides (if empty then None else dir_denied (finite.get tree.now folder.now))
-        (λ c. (c.base ≡ base) × ((q : Path) → content_at c.report q ≡ begun empty tree.now folder.now q)) result }
+    ensures { Decides (begun_denied target.now empty tree.now source.now)
+        (λ c. (c.base ≡ base) × (c.switches.items ≡ [])
+        × ((q : Path) → content_at c.report q ≡ begun target.now empty tree.now source.now q)) result }
 {
-    match begun_in(alloc, tree, folder, empty) {
-        Ok(report) => Ok(WorkingCopy { report, base }),
+    match begun_in(alloc, tree, source, target, empty) {
+        Ok(report) => Ok(WorkingCopy {
+            report,
+            switches: Vec::new(alloc),
+            base,
+        }),
         Err(stop) => Err(stop),
     }
 }
 
+// What stands at a source of a tree, as the folder or as a target.
+fn begun_in(
+    alloc: Global,
+    tree: &Tree,
+    source: &NodePath,
+    target: &NodePath,
+    empty: bool,
+) -> Result<Report, Stop>
+    ensures { Decides (begun_denied target.now empty tree.now source.now)
+        (λ r. (q : Path) → content_at r q ≡ begun target.now empty tree.now source.now q) result }
+{
+    if target.is_root() {
+        return folder_begun(alloc, tree, source, empty);
+    }
+    target_begun(alloc, tree, source, target, empty)
+}
+
 // A folder of a tree, or one without what is in it.
-fn begun_in(alloc: Global, tree: &Tree, folder: &NodePath, empty: bool) -> Result<Report, Stop>
+fn folder_begun(alloc: Global, tree: &Tree, folder: &NodePath, empty: bool) -> Result<Report, Stop>
     ensures { Decides (if empty then None else dir_denied (finite.get tree.now folder.now))
-        (λ r. (q : Path) → content_at r q ≡ begun empty tree.now folder.now q) result }
+        (λ r. (q : Path) → content_at r q ≡ begun [] empty tree.now folder.now q) result }
 {
     if empty {
         return match Report::begin_empty(alloc) {
@@ -162,8 +222,53 @@ fn begun_in(alloc: Global, tree: &Tree, folder: &NodePath, empty: bool) -> Resul
     }
 }
 
+// What stands at a source, at a target's name in a folder that has nothing else.
+fn target_begun(
+    alloc: Global,
+    tree: &Tree,
+    source: &NodePath,
+    target: &NodePath,
+    empty: bool,
+) -> Result<Report, Stop>
+    requires { same_path target.now [] ≡ false }
+    ensures { Decides (if is_none (finite.get tree.now source.now) then None
+        else placing_denied bare target.now tree.now source.now empty)
+        (λ r. (q : Path) → content_at r q ≡ placed bare target.now (brought empty tree.now source.now) q) result }
+{
+    // For the proof: below a path at which nothing stands, nothing does.
+    tree.is_tree();
+    let report = match Report::begin_empty(alloc) {
+        Ok(report) => report,
+        Err(_) => return Err(Stop::OutOfMemory),
+    };
+    if tree.get(source.names()).is_none() {
+        return Ok(report);
+    }
+    with_target(alloc, report, tree, source, target, empty)
+}
+
+// The same in a folder.
+fn with_target(
+    alloc: Global,
+    report: Report,
+    tree: &Tree,
+    source: &NodePath,
+    target: &NodePath,
+    empty: bool,
+) -> Result<Report, Stop>
+    ensures { Decides (placing_denied (content_at report) target.now tree.now source.now empty)
+        (λ r. (q : Path) → content_at r q
+        ≡ placed (content_at report) target.now (brought empty tree.now source.now) q) result }
+{
+    let mut report = report;
+    match bring_from(alloc, &mut report, target, tree, source, empty) {
+        Ok(()) => Ok(report),
+        Err(stop) => Err(stop),
+    }
+}
+
 /// What is reported behind other commands.
-pub(crate) fn go_on<P: RepoPort>(
+fn go_on<P: RepoPort>(
     alloc: Global,
     port: &mut P,
     place: &SessionUrl,
@@ -171,16 +276,24 @@ pub(crate) fn go_on<P: RepoPort>(
     rest: &[ReportCommand],
 ) -> Result<WorkingCopy, Stop>
     ensures found { Finds P.repository P.refusals
-        (λ x. later_denied x (place_as place.now) (content_at copy.report) (map report_as rest.now))
-        (λ x c. ((q : Path) → content_at c.report q
-        ≡ later_known x (place_as place.now) (content_at copy.report) (map report_as rest.now) q) × (c.base ≡ copy.base))
-        port.old port.new result }
+        (λ x. later_denied x (place_as place.now) (having (content_at copy.report) copy.switches.items) (map report_as rest.now))
+        (λ x c. IsCopy (later x (place_as place.now) (having (content_at copy.report) copy.switches.items)
+        (map report_as rest.now)) (Some copy.base) c) port.old port.new result }
     ensures stays { PortStays P.repository P.refusals P.is_mirror port.old port.new }
 {
-    let WorkingCopy { report, base } = copy;
+    let WorkingCopy {
+        report,
+        switches,
+        base,
+    } = copy;
     let mut report = report;
-    match take_all(alloc, port, place, &mut report, rest) {
-        Ok(()) => Ok(WorkingCopy { report, base }),
+    let mut switches = switches;
+    match take_all(alloc, port, place, &mut report, &mut switches, rest) {
+        Ok(()) => Ok(WorkingCopy {
+            report,
+            switches,
+            base,
+        }),
         Err(stop) => Err(stop),
     }
 }
@@ -191,17 +304,18 @@ fn take_all<P: RepoPort>(
     port: &mut P,
     place: &SessionUrl,
     report: &mut Report,
+    switches: &mut Vec<Switched>,
     rest: &[ReportCommand],
 ) -> Result<(), Stop>
     ensures found { Finds P.repository P.refusals
-        (λ x. later_denied x (place_as place.now) (content_at report.old) (map report_as rest.now))
-        (λ x _. (q : Path) → content_at report.new q
-        ≡ later_known x (place_as place.now) (content_at report.old) (map report_as rest.now) q)
+        (λ x. later_denied x (place_as place.now) (having (content_at report.old) switches.old.items) (map report_as rest.now))
+        (λ x _. having (content_at report.new) switches.new.items
+        ≡ later x (place_as place.now) (having (content_at report.old) switches.old.items) (map report_as rest.now))
         port.old port.new result }
     ensures stays { PortStays P.repository P.refusals P.is_mirror port.old port.new }
 {
     for command in rest {
-        match take(alloc, port, place, report, command) {
+        match take(alloc, port, place, report, switches, command) {
             Ok(()) => {}
             Err(stop) => return Err(stop),
         }

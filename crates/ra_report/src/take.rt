@@ -1,23 +1,22 @@
 //! One command of a report behind its first.
 
-ghost use Rattle.std.specs.Prelude.{◌≡◌, ◌++◌, [], not, None};
-ghost use Rattle.std.specs.Option.{option_or};
+ghost use Rattle.std.specs.Prelude.{◌≡◌, ◌++◌, [], ◌∷◌, not, None};
 ghost use Rattle.dump_load.specs.Faults.{fault_if};
 ghost use Rattle.node_base.specs.Limits.{fits};
 ghost use Rattle.node_base.specs.Path.{Path, same_path};
 ghost use Rattle.tree_reports.specs.Reports.{brought, content_at, placed};
-ghost use Rattle.browse_wire.specs.Reports.{report_as, reported_as};
-ghost use Rattle.browse_wire.specs.Urls.{url_read};
-ghost use Rattle.ra_browse.specs.Answers.{url_denied, moved_to};
+ghost use Rattle.browse_wire.specs.Reports.{report_as, reported_as, LinkPath, SetPath};
 ghost use Rattle.ra_browse.specs.Tellings.{place_as, Decides, Finds, PortStays};
 ghost use Rattle.ra_browse.specs.declared.denial.Denial.TheVariants.{BadReport, NoPath};
-ghost use Rattle.ra_report.specs.Reports.{shallow_denied, placing_denied, source_denied, with_source, next_denied, next_known, error_stop};
+ghost use Rattle.ra_report.specs.Reports.{shallow_denied, placing_denied, source_denied, with_source, error_stop};
+ghost use Rattle.ra_report.specs.Reports.{having, next, next_denied, switched};
 
 use crate::order::path_at;
+use crate::switched::{Switched, lying};
 use browse_wire::depth::Depth;
 use browse_wire::report::{ReportCommand, Reported};
 use browse_wire::url::SessionUrl;
-use node_base::NodePath;
+use node_base::{NodeName, NodePath};
 use path_history::{HistoryFault, joined};
 use path_tree::Tree;
 use ra_browse::{Denial, Stop, stopped, tree_asked};
@@ -31,20 +30,23 @@ pub fn take<P: RepoPort>(
     port: &mut P,
     place: &SessionUrl,
     report: &mut Report,
+    switches: &mut Vec<Switched>,
     command: &ReportCommand,
 ) -> Result<(), Stop>
     ensures found { Finds P.repository P.refusals
-        (λ x. next_denied x (place_as place.now) (content_at report.old) (report_as command.now))
-        (λ x _. (q : Path) → content_at report.new q
-        ≡ next_known x (place_as place.now) (content_at report.old) (report_as command.now) q)
+        (λ x. next_denied x (place_as place.now) (having (content_at report.old) switches.old.items) (report_as command.now))
+        (λ x _. having (content_at report.new) switches.new.items
+        ≡ next x (place_as place.now) (having (content_at report.old) switches.old.items) (report_as command.now))
         port.old port.new result }
     ensures stays { PortStays P.repository P.refusals P.is_mirror port.old port.new }
 {
     match command {
-        ReportCommand::SetPath(path) => set_path(alloc, port, &place.path, report, path),
+        ReportCommand::SetPath(path) => {
+            set_path(alloc, port, place, report, switches.as_slice(), path)
+        }
         ReportCommand::DeletePath(path) => delete_path(alloc, report, path),
         ReportCommand::LinkPath(path, url) => {
-            link_path(alloc, port, place, report, path, url.as_slice())
+            link_path(alloc, port, place, report, switches, path, url.as_slice())
         }
         ReportCommand::FinishReport => Err(Stop::Denied(Denial::BadReport)),
         ReportCommand::AbortReport => Err(Stop::Denied(Denial::BadReport)),
@@ -55,41 +57,41 @@ pub fn take<P: RepoPort>(
 fn set_path<P: RepoPort>(
     alloc: Global,
     port: &mut P,
-    folder: &NodePath,
+    place: &SessionUrl,
     report: &mut Report,
+    switches: &[Switched],
     path: &Reported,
 ) -> Result<(), Stop>
-    ensures found { Finds P.repository P.refusals (λ x. option_or (shallow_denied path.now.depth)
-        (option_or (fault_if (not (fits (folder.now ++ path.now.path))) NoPath)
-        (source_denied x (content_at report.old) (reported_as path.now) (folder.now ++ path.now.path))))
-        (λ x _. (q : Path) → content_at report.new q
-        ≡ with_source x (content_at report.old) (reported_as path.now) (folder.now ++ path.now.path) q)
+    ensures found { Finds P.repository P.refusals
+        (λ x. next_denied x (place_as place.now) (having (content_at report.old) switches.now) (SetPath (reported_as path.now)))
+        (λ x _. having (content_at report.new) switches.now
+        ≡ next x (place_as place.now) (having (content_at report.old) switches.now) (SetPath (reported_as path.now)))
         port.old port.new result }
     ensures stays { PortStays P.repository P.refusals P.is_mirror port.old port.new }
 {
     if let Some(why) = shallow_denied(path.depth) {
         return Err(Stop::Denied(why));
     }
-    match path_in(alloc, folder, &path.path) {
+    match lying(alloc, &place.path, switches, &path.path) {
         Ok(source) => bring(alloc, port, report, path, &source),
         Err(stop) => Err(stop),
     }
 }
 
-// A path as it stands at another URL.
+// A path as it stands at another URL: it is switched.
 fn link_path<P: RepoPort>(
     alloc: Global,
     port: &mut P,
     place: &SessionUrl,
     report: &mut Report,
+    switches: &mut Vec<Switched>,
     path: &Reported,
     url: &[u8],
 ) -> Result<(), Stop>
-    ensures found { Finds P.repository P.refusals (λ x. option_or (shallow_denied path.now.depth)
-        (option_or (url_denied (place_as place.now) (url_read url.now))
-        (source_denied x (content_at report.old) (reported_as path.now) (moved_to (place_as place.now) (url_read url.now)).1)))
-        (λ x _. (q : Path) → content_at report.new q
-        ≡ with_source x (content_at report.old) (reported_as path.now) (moved_to (place_as place.now) (url_read url.now)).1 q)
+    ensures found { Finds P.repository P.refusals
+        (λ x. next_denied x (place_as place.now) (having (content_at report.old) switches.old.items) (LinkPath (reported_as path.now) url.now))
+        (λ x _. having (content_at report.new) switches.new.items
+        ≡ next x (place_as place.now) (having (content_at report.old) switches.old.items) (LinkPath (reported_as path.now) url.now))
         port.old port.new result }
     ensures stays { PortStays P.repository P.refusals P.is_mirror port.old port.new }
 {
@@ -97,9 +99,50 @@ fn link_path<P: RepoPort>(
         return Err(Stop::Denied(why));
     }
     match path_at(alloc, place, url) {
-        Ok(source) => bring(alloc, port, report, path, &source),
+        Ok(source) => switch(alloc, port, report, switches, path, source),
         Err(stop) => Err(stop),
     }
+}
+
+// The same of the URL's path.
+fn switch<P: RepoPort>(
+    alloc: Global,
+    port: &mut P,
+    report: &mut Report,
+    switches: &mut Vec<Switched>,
+    path: &Reported,
+    source: NodePath,
+) -> Result<(), Stop>
+    ensures found { Finds P.repository P.refusals
+        (λ x. source_denied x (content_at report.old) (reported_as path.now) source)
+        (λ x _. having (content_at report.new) switches.new.items
+        ≡ having (with_source x (content_at report.old) (reported_as path.now) source)
+        (switches.old.items ++ switched path.now.path source ∷ [])) port.old port.new result }
+    ensures stays { PortStays P.repository P.refusals P.is_mirror port.old port.new }
+{
+    match bring(alloc, port, report, path, &source) {
+        Ok(()) => push_switched(alloc, switches, &path.path, source),
+        Err(stop) => Err(stop),
+    }
+}
+
+// Puts a switched path behind others.
+fn push_switched(
+    alloc: Global,
+    switches: &mut Vec<Switched>,
+    path: &NodePath,
+    place: NodePath,
+) -> Result<(), Stop>
+    ensures { Decides None (λ _. switches.new.items ≡ switches.old.items ++ switched path.now place ∷ []) result }
+{
+    let path = match path.copy(alloc) {
+        Ok(path) => path,
+        Err(_) => return Err(Stop::OutOfMemory),
+    };
+    if switches.push(Switched { path, place }).is_err() {
+        return Err(Stop::OutOfMemory);
+    }
+    Ok(())
 }
 
 // Nothing at a path.
@@ -133,8 +176,8 @@ fn bring<P: RepoPort>(
     }
 }
 
-// The same of its tree.
-fn bring_from(
+/// What stands at a source of a tree.
+pub fn bring_from(
     alloc: Global,
     report: &mut Report,
     path: &NodePath,
@@ -156,7 +199,14 @@ fn bring_from(
 pub fn path_in(alloc: Global, folder: &NodePath, path: &NodePath) -> Result<NodePath, Stop>
     ensures { Decides (fault_if (not (fits (folder.now ++ path.now))) NoPath) (λ p. p ≡ folder.now ++ path.now) result }
 {
-    match joined(alloc, folder, path.names()) {
+    path_below(alloc, folder, path.names())
+}
+
+/// Names behind a path.
+pub fn path_below(alloc: Global, front: &NodePath, rest: &[NodeName]) -> Result<NodePath, Stop>
+    ensures { Decides (fault_if (not (fits (front.now ++ rest.now))) NoPath) (λ p. p ≡ front.now ++ rest.now) result }
+{
+    match joined(alloc, front, rest) {
         Ok(path) => {
             // For the proof: a path is within the limits.
             path.names();

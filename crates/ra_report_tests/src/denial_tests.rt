@@ -18,10 +18,12 @@ const BAD_REPORT: &[u8] = b"( failure ( ( 165004 19:bad revision report 0: 0 ) )
 
 const UNSUPPORTED: &[u8] = b"( failure ( ( 200007 13:not supported 0: 0 ) ) ) ";
 
+const OTHER_ROOT: &[u8] = b"( failure ( ( 170000 23:not the same repository 0: 0 ) ) ) ";
+
 const NEWEST: &[u8] = b"( update ( ( ) 0: true ) )";
 
 // Where a session stands, what it asks and reports, and what it is told.
-const ROWS: [(&[u8], &[u8], &[u8], &[u8]); 22] = [
+const ROWS: [(&[u8], &[u8], &[u8], &[u8]); 29] = [
     (
         b"svn://h",
         b"( update ( ( 4 ) 0: true ) )",
@@ -126,11 +128,55 @@ const ROWS: [(&[u8], &[u8], &[u8], &[u8]); 22] = [
         b"( set-path ( 0: 3 true ) ) ",
         UNSUPPORTED,
     ),
+    // of another URL: nothing is there, it is the folder that is switched, it is of another root, or something below isn't there
     (
         b"svn://h",
-        b"( switch ( ( ) 5:trunk true 12:svn://h/tags ) )",
-        b"( set-path ( 0: 3 true ) ) ",
-        UNSUPPORTED,
+        NEWEST,
+        b"( set-path ( 0: 3 false ) ) ( link-path ( 4:tags 9:svn://h/x 3 false ) ) ",
+        NO_PATH,
+    ),
+    (
+        b"svn://h",
+        NEWEST,
+        b"( set-path ( 0: 3 false ) ) ( link-path ( 0: 12:svn://h/tags 3 false ) ) ",
+        BAD_REPORT,
+    ),
+    (
+        b"svn://h",
+        NEWEST,
+        b"( set-path ( 0: 3 false ) ) ( link-path ( 4:tags 13:svn://i/trunk 3 false ) ) ",
+        OTHER_ROOT,
+    ),
+    (
+        b"svn://h/tags",
+        NEWEST,
+        b"( set-path ( 0: 3 false ) ) ( link-path ( 1:x 13:svn://h/trunk 3 false ) ) ( set-path ( 5:x/new 1 false ) ) ",
+        NO_PATH,
+    ),
+    (
+        b"svn://h/trunk",
+        b"( update ( ( 4 ) 3:new true ) )",
+        b"( set-path ( 0: 0 false ) ) ( delete-path ( 0: ) ) ",
+        NO_REVISION,
+    ),
+    (
+        b"svn://h/trunk",
+        b"( update ( ( ) 3:new true ) )",
+        b"( set-path ( 0: 4 false ) ) ( delete-path ( 0: ) ) ",
+        NO_REVISION,
+    ),
+    // of a target of which nothing is there, nothing else is reported
+    (
+        b"svn://h/trunk",
+        b"( update ( ( ) 3:new true ) )",
+        b"( set-path ( 0: 1 false ) ) ( set-path ( 1:f 3 false ) ) ",
+        BAD_REPORT,
+    ),
+    (
+        b"svn://h/trunk",
+        b"( update ( ( ) 3:new true ) )",
+        b"( set-path ( 0: 3 false ) ) ( set-path ( 0: 1 false ) ) ",
+        NO_PATH,
     ),
     (
         b"svn://h",
@@ -185,7 +231,7 @@ fn reports(rt: HostRuntime) {
 }
 
 // Commands, and whether a report follows them; 0 where they are ordered, or a failure's number.
-const ORDERS: [(&[u8], bool, u64); 15] = [
+const ORDERS: [(&[u8], bool, u64); 16] = [
     (b"( update ( ( ) 0: true ) )", true, 0),
     (b"( update ( ( 9 ) 0: true unknown false false ) )", true, 0),
     (b"( update ( ( ) 0: false ) )", true, 200_007),
@@ -193,11 +239,12 @@ const ORDERS: [(&[u8], bool, u64); 15] = [
     (b"( update ( ( ) 1:a false ) )", true, 200_007),
     (b"( update ( ( ) 3:a/b true ) )", true, 200_007),
     (b"( switch ( ( ) 1:a true 15:svn://h/trunk/a ) )", true, 0),
-    (b"( switch ( ( ) 1:a true 9:svn://h/a ) )", true, 200_007),
+    (b"( switch ( ( ) 1:a true 9:svn://h/a ) )", true, 0),
+    (b"( switch ( ( ) 1:a true 9:svn://i/a ) )", true, 170_000),
     (
         b"( diff ( ( ) 1:a true false 17:svn://h/trunk/a/b ) )",
         true,
-        200_007,
+        0,
     ),
     (b"( status ( 0: true ) )", true, 0),
     (b"( status ( 0: false ) )", true, 200_007),

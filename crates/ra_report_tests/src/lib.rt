@@ -7,6 +7,8 @@ mod denial_tests;
 #[cfg(test)]
 mod edit_tests;
 #[cfg(test)]
+mod elsewhere_tests;
+#[cfg(test)]
 mod failure_tests;
 #[cfg(test)]
 mod growth_tests;
@@ -14,5 +16,7 @@ mod growth_tests;
 mod reports;
 #[cfg(test)]
 mod site;
+#[cfg(test)]
+mod switch_tests;
 #[cfg(test)]
 mod target_tests;

@@ -1,16 +1,18 @@
 use Rattle.std.proofs.Common.{arith}
-use Rattle.ra_serve.specs.Answers.{asked, node_in}
-use Rattle.ra_browse.specs.Answers.{no_revision, dir_denied}
+use Rattle.ra_serve.specs.Answers.{asked}
+use Rattle.ra_serve.specs.Ports.{tree_of}
+use Rattle.ra_browse.specs.Answers.{no_revision}
+use Rattle.ra_report.specs.Orders.{place_denied}
 use Rattle.ra_report.proofs.Calls.{first_stops}
 use Rattle.ra_report.proofs.Folders.{wanted_comes}
 use Rattle.ra_report.proofs.folder.look_up.Goals as goal
 
 pub returns-in-Ok-clause-found : goal.returns-in-Ok-clause-found
 returns-in-Ok-clause-found g c = λ x e.
-    wanted_comes x c.args.revision c.args.folder.now _ _ _ _ c.wanted_in.result (c.in-Ok.ensures.there x e) (c.in-Ok.ensures.number x e) (c.in-Ok.ensures.tree x e) c.wanted_in.ensures
+    wanted_comes x c.args.revision c.args.place.now c.args.target.now _ _ _ _ c.wanted_in.result (c.in-Ok.ensures.there x e) (c.in-Ok.ensures.number x e) (c.in-Ok.ensures.tree x e) c.wanted_in.ensures
 
 pub returns-in-Err-clause-found : goal.returns-in-Err-clause-found
 returns-in-Err-clause-found g c = λ x e.
     let now = g.P.RepoPort.refusals c.tree_asked.new.port in
     let n = asked x c.args.revision in
-    first_stops (g.P.RepoPort.refusals c.args.port.now) now now (no_revision x n) (dir_denied (node_in x n c.args.folder.now)) c.stopped.result (omega arith) (c.stopped.ensures x _ _ n (c.in-Err.ensures.refused x e))
+    first_stops (g.P.RepoPort.refusals c.args.port.now) now now (no_revision x n) (place_denied (tree_of x n) c.args.place.now c.args.target.now) c.stopped.result (omega arith) (c.stopped.ensures x _ _ n (c.in-Err.ensures.refused x e))

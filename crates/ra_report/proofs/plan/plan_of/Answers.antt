@@ -1,10 +1,9 @@
 use Rattle.std.proofs.Common.{map}
-use Rattle.std.specs.Option.{option_or}
 use Rattle.browse_wire.specs.Asks.{ask_as}
 use Rattle.browse_wire.specs.Reports.{report_as}
 use Rattle.ra_browse.specs.Tellings.{place_as}
-use Rattle.ra_report.specs.Orders.{order_denied, wanted_denied, wanted_known, revision_of, place_of, target_of}
-use Rattle.ra_report.specs.Reports.{reports_denied}
+use Rattle.ra_report.specs.Orders.{order_denied, revision_of, place_of, target_of, keeps}
+use Rattle.ra_report.specs.Edits.{edit_denied}
 use Rattle.ra_report.proofs.Calls.{denied_first}
 use Rattle.ra_report.proofs.Planning.{plan_ordered}
 use Rattle.ra_report.proofs.plan.plan_of.Goals as goal
@@ -17,4 +16,4 @@ pub returns-in-Err-clause-found : goal.returns-in-Err-clause-found
 returns-in-Err-clause-found g c = λ x e.
     let at = place_as c.args.place.now in
     let a = ask_as c.args.command.now in
-    denied_first _ _ (order_denied at a) (option_or (wanted_denied x (revision_of a) (place_of at a)) (reports_denied x at (target_of a) (wanted_known x (revision_of a) (place_of at a)) (map report_as c.args.report.now))) c.in-Err.stop c.in-Err.ensures
+    denied_first _ _ (order_denied at a) (edit_denied x at (revision_of a) (place_of at a) (target_of a) (keeps a) (map report_as c.args.report.now)) c.in-Err.stop c.in-Err.ensures

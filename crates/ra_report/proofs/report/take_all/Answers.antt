@@ -2,6 +2,7 @@ use Rattle.std.proofs.Common.{◌+◌, ◌∙◌, drop, map, arith}
 use Rattle.tree_reports.specs.Reports.{content_at}
 use Rattle.browse_wire.specs.Reports.{report_as}
 use Rattle.ra_browse.specs.Tellings.{place_as}
+use Rattle.ra_report.specs.Reports.{having}
 use Rattle.ra_report.proofs.Later.{one_less, next_left, none_left}
 use Rattle.ra_report.proofs.report.take_all.Goals as goal
 
@@ -11,11 +12,13 @@ loop-command-preserved g c =
     let was = c.loop-command.invariant in
     let i = c.loop-command.command-index in
     let item = c.command-item.result in
+    let old = having (content_at c.loop-command.report) c.loop-command.switches.items in
+    let first = having (content_at c.args.report.now) c.args.switches.now.items in
     record {
       left = λ x e.
           let f = c.in-Ok.ensures.found x (was.stays.repository ∙ e) in
-          one_less x at (content_at c.loop-command.report) (content_at c.take.new.report) (content_at c.args.report.now) (report_as item) (map report_as (drop (i + 1) c.args.rest.now)) (map report_as c.args.rest.now) f.0 f.1
-          (next_left x at (content_at c.loop-command.report) (content_at c.args.report.now) c.args.rest.now i item (map report_as c.args.rest.now) c.loop-command-test.true c.command-item.is (was.left x e));
+          one_less x at old (having (content_at c.take.new.report) c.take.new.switches.items) first (report_as item) (map report_as (drop (i + 1) c.args.rest.now)) (map report_as c.args.rest.now) f.0 f.1
+          (next_left x at old first c.args.rest.now i item (map report_as c.args.rest.now) c.loop-command-test.true c.command-item.is (was.left x e));
       stays = record {
         repository = c.take.ensures.stays.repository ∙ was.stays.repository;
         goes = record { mirror = c.take.ensures.stays.goes.mirror ∙ was.stays.goes.mirror; later = omega (arith, was.stays.goes.later, c.take.ensures.stays.goes.later) };
@@ -24,4 +27,4 @@ loop-command-preserved g c =
 
 pub returns-clause-found : goal.returns-clause-found
 returns-clause-found g c = λ x e.
-    none_left x (place_as c.args.place.now) (content_at c.loop-command.report) (content_at c.args.report.now) c.args.rest.now c.loop-command.command-index (map report_as c.args.rest.now) c.loop-command-test.false (c.loop-command.invariant.left x e)
+    none_left x (place_as c.args.place.now) (having (content_at c.loop-command.report) c.loop-command.switches.items) (having (content_at c.args.report.now) c.args.switches.now.items) c.args.rest.now c.loop-command.command-index (map report_as c.args.rest.now) c.loop-command-test.false (c.loop-command.invariant.left x e)
