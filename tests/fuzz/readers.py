@@ -173,12 +173,12 @@ class Reader(Asker):
         depth = self.depth() if self.random.random() < 0.02 else WHOLE[0]
         return self.cut([number, is_empty, token, depth], 2 if self.random.random() < 0.05 else 0)
 
-    def reported_path(self, path, numbers):
-        """Something that is said of a path of these revisions."""
+    def reported_path(self, path, numbers, front):
+        """Something that is said of a path of these revisions, behind that of a target."""
         random, way, slashed = self.random, self.random.random(), self.slashed(path)
         if way < 0.15:
             return [Word(b'delete-path'), [slashed]]
-        number, place, url = self.any_of(numbers), self.place + path, []
+        number, place, url = self.any_of(numbers), self.place + front + path, []
         if way < 0.15 + self.LINKED:
             place = self.absolute()
             url = [self.spelled_url(place) if random.random() < 0.9 else self.moved()]
@@ -188,22 +188,32 @@ class Reader(Asker):
     def may_be_empty(self, _place, _number):
         return True
 
-    def reported_paths(self, number):
-        """What is said of some paths of a folder of a revision, which is known already."""
-        there = [it for it in self.there(number) if it] or [(b'a',)]
+    def reported_paths(self, number, front):
+        """What is said of some paths of a folder of a revision, or of a target in it, which is known already."""
+        there = [it[len(front):] for it in self.there(number) if it[:len(front)] == front and it != front] or [(b'a',)]
         for path in [self.random.choice(there) for _ in range(self.random.choice([0, 0, 1, 2, 4]))]:
             if self.random.random() < 0.05:
                 path += (self.name_near(),)
-            numbers = [at for at, tree in enumerate(self.server.trees) if self.place + path in tree]
-            yield self.reported_path(path, numbers)
+            numbers = [at for at, tree in enumerate(self.server.trees) if self.place + front + path in tree]
+            yield self.reported_path(path, numbers, front)
+
+    def target_of(self, order):
+        """The path of a command's target."""
+        return tuple(it for it in order[1][0 if order[0] == b'status' else 1].split(b'/') if it)
+
+    def begun(self, number, is_empty, front):
+        """What is said first, and of a target at times that nothing is there."""
+        if front and self.random.random() < 0.15:
+            return [[Word(b'set-path'), [b'', *self.state(0, False)]], [Word(b'delete-path'), [b'']]]
+        return [[Word(b'set-path'), [b'', *self.state(number, is_empty)]]]
 
     def report(self):
         """A command, the report that follows, and what the client says of the edit that it is sent."""
         random, said = self.random, [self.order()]
-        number = self.any_of(self.folders())
+        number, front = self.any_of(self.folders()), self.target_of(said[0])
         if random.random() < 0.97:
-            said.append([Word(b'set-path'), [b'', *self.state(number, random.random() < 0.3)]])
-        said += self.reported_paths(min(number, len(self.server.trees) - 1))
+            said += self.begun(number, random.random() < 0.3, front)
+        said += self.reported_paths(min(number, len(self.server.trees) - 1), front)
         if random.random() < 0.1:
             said.insert(random.randrange(len(said) + 1), self.bent(random.choice([*said, [Word(b'stat'), [b'', []]]])[:]))
         said.append([Word(b'finish-report' if random.random() < 0.95 else b'abort-report'), []])
@@ -345,20 +355,21 @@ class WellBehaved(Reader):
     def report(self):
         """A report of what may be: folders before what is in them, each of a revision in which it is there."""
         random, order = self.random, self.order()
-        target = order[1][0 if order[0] == b'status' else 1]
-        front, number = (target,) if target else (), random.choice(self.folders())
-        said = [order, [Word(b'set-path'), [b'', *self.state(number, not target and random.random() < 0.2)]]]
-        paths = sorted({it for tree in self.server.trees for it in tree if it[:len(self.place + front)] == self.place + front})
-        for path in random.sample(paths, min(len(paths), random.choice([0, 0, 1, 2, 4]))):
-            said.append((path, [at for at, tree in enumerate(self.server.trees) if path in tree]))
-        return self.that_hold(said[:2], sorted(said[2:]), len(self.place + front)) + [[Word(b'success'), []]]
+        front, number = self.target_of(order), random.choice(self.folders())
+        said = [order, *self.begun(number, not front and random.random() < 0.2, front)]
+        paths, top = [], self.place + front
+        for path in sorted({it for tree in self.server.trees for it in tree if it[:len(top)] == top}):
+            paths.append((path, [at for at, tree in enumerate(self.server.trees) if path in tree]))
+        paths = sorted(random.sample(paths, min(len(paths), random.choice([0, 0, 1, 2, 4]))))
+        return self.that_hold(said, paths, front) + [[Word(b'success'), []]]
 
     def that_hold(self, said, paths, front):
         """Of what might be reported of these paths what is no fault behind the rest, and the end."""
+        length = len(self.place + front)
         for path, numbers in paths:
-            more = [*said, self.reported_path(path[front:], numbers)]
+            more = [*said, self.reported_path(path[length:], numbers, front)]
             before, behind = (self.server.edit_behind([*it, FINISH], self.root, self.place) for it in (said, more))
-            if path[front:] and behind and self.is_taken(path[len(self.place):], more[-1][0], before, behind):
+            if path[length:] and behind and self.is_taken(path[len(self.place):], more[-1][0], before, behind):
                 said = more
         return [*said, FINISH]
 

@@ -95,8 +95,8 @@ class Report:
         self.server, self.number, self.target, self.wanted = server, number, target, wanted
         self.has_url, self.has_texts = has_url, has_texts
         self.said, self.spoilt = [], None
-        # where a reported folder stands that is switched, by its path
-        self.links = {}
+        # where what is switched stands, with its path
+        self.links = []
         self.tree, self.base = None, None
 
     def answer(self, item):
@@ -130,8 +130,6 @@ class Report:
             found = read(Asked(item[1]))
         except Refused:
             raise Denied(210004) from None
-        if name == 'link-path' and not self.server.TAKES_LINKS:
-            raise Denied(200007)
         return name, found
 
     def set_path(self, params):
@@ -164,37 +162,28 @@ class Report:
     # ---- what is wanted, and what is reported
 
     def edit(self):
-        number = self.server.number(self.number)
-        if self.target and not self.server.AS_SVNSERVE:
-            return self.edit_of_target(number)
-        wanted = self.server.part(self.wanted, number, not self.target)
+        """The edit of what is reported to what is wanted: a target stands alone in its folder."""
+        number, front = self.server.number(self.number), self.target
+        wanted = self.server.part(self.wanted, number, not front)
+        if front and not all(fits(front + it) for it in wanted):
+            raise Denied(200007)
+        if not all(fits(front + params[0]) for _, params in self.said):
+            raise Denied(160013)
         for it in self.said:
             self.take(*it)
         if self.tree is None:
             raise Denied(165004)
         both = self.tree, self.followed(wanted, number)
-        return Update(self, *(placed(ROOT, self.target, it) for it in both), number)
-
-    def edit_of_target(self, number):
-        """What is reported of a target stands in the folder that is wanted, so that nothing else differs."""
-        folder, front = self.server.part(self.server.place, number, True), self.target
-        path, _, self.base, _, _ = self.said[0][1] if self.said and self.said[0][0] == 'set-path' else [b'none', None, 0, False, b'']
-        if path:
-            raise Denied(165004)
-        self.server.number(self.base)
-        if not all(fits(front + params[0]) for _, params in self.said):
-            raise Denied(160013)
-        self.tree, self.target = folder, ()
-        for name, params in self.said:
-            self.take(name, [front + params[0], *params[1:]])
-        self.target = front
-        return Update(self, self.tree, folder, number)
+        return Update(self, *(placed(ROOT, front, it) for it in both), number)
 
     def followed(self, wanted, number):
         """What is wanted where a folder stays switched: what stands there at its own place."""
-        for path, place in self.links.items():
-            if not self.has_url and not is_blocked(wanted, path):
-                wanted = placed(wanted, path, below(self.server.trees[number], place))
+        for path, place in [] if self.has_url else self.links:
+            if not is_blocked(wanted, path):
+                part = below(self.server.trees[number], place)
+                if not all(fits(self.target + path + it) for it in part):
+                    raise Denied(200007)
+                wanted = placed(wanted, path, part)
         return wanted
 
     def take(self, name, params):
@@ -217,9 +206,13 @@ class Report:
             raise Denied(165004)
         if depth != b'infinity':
             raise Denied(200007)
-        found = self.server.part(self.server.place + self.target, self.server.number(number), not self.target and not is_empty)
+        place = self.server.place + self.target
+        if not fits(place):
+            raise Denied(160013)
+        found = self.server.part(place, self.server.number(number), not self.target and not is_empty)
         self.base = number
-        self.tree = ROOT if is_empty else found
+        # (a folder begins empty wherever it stands)
+        self.tree = found if not is_empty else emptied(found) if self.target else ROOT
 
     def source(self, path, url, number, is_empty):
         """What stands where a path is said to come from, in a revision."""
@@ -233,10 +226,10 @@ class Report:
         if place not in tree:
             raise Denied(160013)
         found = below(tree, place)
-        if not is_empty and not all(fits(path + it) for it in found):
+        if not is_empty and not all(fits(self.target + path + it) for it in found):
             raise Denied(200007)
         if url is not None:
-            self.links[path] = place
+            self.links.append((path, place))
         return emptied(found) if is_empty else found
 
     def has_place(self, path):
@@ -245,11 +238,12 @@ class Report:
             raise Denied(165004)
 
     def place_of(self, path):
-        """Where a path lies: below the session's place, or below that of a switched folder."""
-        for n in range(len(path), 0, -1):
-            if path[:n] in self.links:
-                return self.links[path[:n]] + path[n:]
-        return self.server.place + self.target + path
+        """Where a path lies: below the session's place, or below that of what is switched."""
+        found = self.server.place + self.target + path
+        for front, place in self.links:
+            if path[:len(front)] == front:
+                found = place + path[len(front):]
+        return found
 
 
 def fits(path):
@@ -292,9 +286,6 @@ class Judged:
 
 class Reporting(Reads):
     """A repository as readers see it who have working copies of it."""
-
-    # Whether a folder may be reported as it stands at another URL, and a command have a target that stands at one.
-    AS_SVNSERVE = TAKES_LINKS = False
 
     def __init__(self, *words):
         super().__init__(*words)
@@ -345,8 +336,8 @@ class Reporting(Reads):
         if 'update' not in ANSWERED or depth not in (b'infinity', b'unknown') or len(target) > 1:
             raise Denied(200007)
         place = self.place + target if url is None else self.linked(url)
-        if target and place != self.place + target and not self.AS_SVNSERVE:
-            raise Denied(200007)
+        if not fits(place):
+            raise Denied(160013)
         return place
 
     def report(self, *words):

@@ -86,14 +86,6 @@ class Copies:
         """Words that do the same to both, whatever they print of it."""
         self.tells(*words, form=lambda it: re.findall(rb'revision (\d+)\.\n', it)[-1:])
 
-    def by_first(self, *words):
-        """Words of which both copies know by the first URL alone: the second's is brought to its own again."""
-        self.run(1, ['relocate', self.urls[1], self.urls[0], 'wc'])
-        done = self.both([it.replace('ROOT', self.urls[0]) for it in words])
-        self.same('svn ' + ' '.join(words), *((it[0], it[2]) for it in done))
-        status = self.run(1, ['relocate', self.urls[0], self.urls[1], 'wc'])
-        self.same('relocate', (0, []), (status[0], status[2]))
-
     def have_files(self, what):
         self.same(what + ': files', *(files_in(os.path.join(it, 'wc')) for it in self.rooms))
 
@@ -185,26 +177,20 @@ def updated(reader):
     front = main and main + '/'
     folders, files = ([it[len(front):] for it in paths if it.startswith(front)] for paths in reader.nodes(reader.head))
     for number in numbers[:2]:
-        # a copy of several revisions, which both know by the repository itself
-        copies.by_first('update', '-r', str(number), *('wc/' + it for it in folders[:2] + files[-2:]))
+        # a copy of several revisions
+        copies.does('update', '-r', str(number), *('wc/' + it for it in folders[:2] + files[-2:]))
         copies.does('update', '-r', str(numbers[2]), 'wc')
         copies.alike('update of several to %d' % numbers[2])
         copies.does('update', 'wc')
         copies.alike('update of several')
-    if 'targets' in reader.answered:
-        for path in folders[:2] + files[-2:]:
-            # (what it stands in has to be there in that revision)
-            above = os.path.dirname(front + path)
-            if 'elsewhere' not in reader.answered and above and above not in reader.nodes(numbers[0])[0]:
-                continue
-            copies.does('update', '-r', str(numbers[0]), 'wc/' + path)
-            copies.alike('update of %s to %d' % (path, numbers[0]))
-        copies.does('update', 'wc')
-        copies.alike('update of all')
-    if 'elsewhere' in reader.answered:
-        copies.does('update', '-r', str(numbers[0]), 'wc')
-        copies.does('update', *('wc/' + it for it in files[-4:]))
-        copies.alike('update of what may not be there')
+    for path in folders[:2] + files[-2:]:
+        copies.does('update', '-r', str(numbers[0]), 'wc/' + path)
+        copies.alike('update of %s to %d' % (path, numbers[0]))
+    copies.does('update', 'wc')
+    copies.alike('update of all')
+    copies.does('update', '-r', str(numbers[0]), 'wc')
+    copies.does('update', *('wc/' + it for it in files[-4:]))
+    copies.alike('update of what may not be there')
     return copies.fine
 
 
@@ -216,20 +202,18 @@ def switched(reader):
             copies.does('switch', reader.at(path), 'wc')
         copies.does('switch', '--ignore-ancestry', reader.at(path), 'wc')
         copies.alike('switch to %s' % path)
-    # a folder alone, first by the repository itself
+    # a folder alone
     front = main and main + '/'
     inside = [it[len(front):] for it in reader.nodes(reader.head)[0] if it.startswith(front) and it not in (main, other)][0]
-    copies.by_first('switch', '--ignore-ancestry', reader.at(other), 'wc/' + inside)
-    if 'links' not in reader.answered:
-        copies.is_refused('200007', 'update', 'wc')
-        copies.alike('a switched folder that is not updated')
-        return copies.fine
+    copies.does('switch', '--ignore-ancestry', reader.at(other), 'wc/' + inside)
+    copies.alike('switch of a folder')
     for number in (older_of(reader, other)[0], reader.head):
         copies.does('update', '-r', str(number), 'wc')
         copies.alike('update of a switched folder to %d' % number)
-    if 'elsewhere' in reader.answered:
-        copies.does('switch', '--ignore-ancestry', reader.at(front + inside), 'wc/' + inside)
-        copies.alike('switch of a folder')
+        copies.sections(b'', 'status', '-u', 'wc')
+        copies.sections(b'Index: ', 'diff', '-r', str(number), 'wc')
+    copies.does('switch', '--ignore-ancestry', reader.at(front + inside), 'wc/' + inside)
+    copies.alike('switch of a folder back')
     return copies.fine
 
 
@@ -238,15 +222,15 @@ def compared(reader):
     numbers, before = older_of(reader, main), max(1, reader.head - 20)
     for one, two in ((before, reader.head), (reader.head, before), (1, before // 2)):
         # (of a folder below the root it is a part of another that is asked for)
-        for path in [main, ''] if 'targets' in reader.answered and ('elsewhere' in reader.answered or one and two) else ['']:
+        for path in (main, ''):
             copies.sections(b'Index: ', 'diff', '-r', '%d:%d' % (one, two), reader.at(path))
             copies.sections(b'', 'diff', '--summarize', '-r', '%d:%d' % (one, two), reader.at(path))
     copies.does('checkout', reader.at(main), 'wc')
     copies.sections(b'Index: ', 'diff', '-r', str(numbers[0]), 'wc')
-    if 'targets' in reader.answered:
-        copies.sections(b'Index: ', 'diff', '-r', '%d:%d' % (numbers[0], reader.head), 'wc')
-    if 'elsewhere' in reader.answered:
-        copies.sections(b'Index: ', 'diff', reader.at(other), reader.at(main))
+    copies.sections(b'Index: ', 'diff', '-r', '%d:%d' % (numbers[0], reader.head), 'wc')
+    copies.sections(b'Index: ', 'diff', reader.at(other), reader.at(main))
+    files = [it for it in reader.nodes(reader.head)[1] if it.startswith(main)]
+    copies.sections(b'Index: ', 'diff', reader.at(files[0]), reader.at(files[-1]))
     if 'log' in reader.answered:
         path = 'wc/' + [it[len(main and main + '/'):] for it in reader.nodes(reader.head)[1] if it.startswith(main and main + '/')][-1]
         for words in (['log', 'wc'], ['log', '-v', '-r', 'BASE:1', path], ['blame', path], ['info', '-r', 'HEAD', path]):

@@ -73,11 +73,10 @@ pub data Said : Type 0 where
 abbrev pub without_token : Reported → Reported
 without_token r = record { path = r.path; revision = r.revision; start_empty = r.start_empty; token = None; depth = r.depth }
 
--- a path that stands as another URL's isn't taken
 abbrev pub said_in : reports.Reading → Said
 said_in (Ok (SetPath r)) = More (SetPath (without_token r))
 said_in (Ok (DeletePath p)) = More (DeletePath p)
-said_in (Ok (LinkPath r url)) = Spoils denial.Unsupported
+said_in (Ok (LinkPath r url)) = More (LinkPath (without_token r) url)
 said_in (Ok FinishReport) = AtEnd
 said_in (Ok AbortReport) = GivenUp
 said_in (Err f) = Spoils (no_ask f)

@@ -37,7 +37,10 @@ pub fn said_by(alloc: Global, item: Item) -> Result<Said, ServeFault>
             Ok(Said::More(ReportCommand::SetPath(without_token(state))))
         }
         Ok(ReportCommand::DeletePath(path)) => Ok(Said::More(ReportCommand::DeletePath(path))),
-        Ok(ReportCommand::LinkPath(..)) => Ok(Said::Spoils(Denial::Unsupported)),
+        Ok(ReportCommand::LinkPath(state, url)) => Ok(Said::More(ReportCommand::LinkPath(
+            without_token(state),
+            url,
+        ))),
         Ok(ReportCommand::FinishReport) => Ok(Said::AtEnd),
         Ok(ReportCommand::AbortReport) => Ok(Said::GivenUp),
         Err(fault) => spoiling(fault),

@@ -8,7 +8,7 @@ use std::process::Abort;
 use std::rt::HostRuntime;
 
 // What is told of reports that no edit answers: one that is given up, of a revision that isn't there, with an item that
-// reports nothing, with a depth that leaves a path out, with a path of another URL, one for a URL of another root; and a session goes on behind each.
+// reports nothing, with a depth that leaves a path out, with a path of another root's URL, one for such a URL; and a session goes on behind each.
 const DENIED: [(&[u8], &[u8]); 9] = [
     (
         b"( update ( ( 3 ) 0: true unknown false false ) ) ( set-path ( 0: 3 true ( ) infinity ) ) ( abort-report ( ) ) ( get-latest-rev ( ) ) ",
@@ -35,8 +35,8 @@ const DENIED: [(&[u8], &[u8]); 9] = [
         b"( success ( ( ) 0: ) ) ( failure ( ( 200007 13:not supported 0: 0 ) ) ) ",
     ),
     (
-        b"( update ( ( 3 ) 0: true unknown false false ) ) ( set-path ( 0: 3 false ( ) infinity ) ) ( link-path ( 5:trunk 29:svn://127.0.0.1:3690/tags/1.0 3 false ( ) infinity ) ) ( finish-report ( ) ) ",
-        b"( success ( ( ) 0: ) ) ( failure ( ( 200007 13:not supported 0: 0 ) ) ) ",
+        b"( update ( ( 3 ) 0: true unknown false false ) ) ( set-path ( 0: 3 false ( ) infinity ) ) ( link-path ( 5:trunk 24:svn://other:3690/tags/1.0 3 false ( ) infinity ) ) ( finish-report ( ) ) ",
+        b"( success ( ( ) 0: ) ) ( failure ( ( 170000 23:not the same repository 0: 0 ) ) ) ",
     ),
     (
         b"( switch ( ( 3 ) 0: true 22:svn://other:3690/trunk unknown false false ) ) ( get-latest-rev ( ) ) ",
@@ -54,7 +54,7 @@ fn reports_without_an_edit(rt: HostRuntime) {
 }
 
 // A command with a report, and what stands in front of the edit that answers it, up to the root's token.
-const ORDERS: [(&[u8], &[u8]); 5] = [
+const ORDERS: [(&[u8], &[u8]); 6] = [
     (
         b"( update ( ( 3 ) 0: true unknown false false ) ) ( set-path ( 0: 3 true ( ) infinity ) ) ( finish-report ( ) ) ",
         b"( success ( ( ) 0: ) ) ( success ( ( ) 0: ) ) ( target-rev ( 3 ) ) ( open-root ( ( 3 ) ",
@@ -74,6 +74,10 @@ const ORDERS: [(&[u8], &[u8]); 5] = [
     (
         b"( status ( 0: true ( ) unknown ) ) ( set-path ( 0: 1 false ( ) infinity ) ) ( finish-report ( ) ) ",
         b"( success ( ( ) 0: ) ) ( success ( ( ) 0: ) ) ( target-rev ( 3 ) ) ( open-root ( ( 1 ) ",
+    ),
+    (
+        b"( update ( ( 3 ) 0: true unknown false false ) ) ( set-path ( 0: 3 false ( ) infinity ) ) ( link-path ( 3:lib 26:svn://127.0.0.1:3690/trunk 2 false ( 1:t ) infinity ) ) ( finish-report ( ) ) ",
+        b"( success ( ( ) 0: ) ) ( success ( ( ) 0: ) ) ( target-rev ( 3 ) ) ( open-root ( ( 3 ) ",
     ),
 ];
 
