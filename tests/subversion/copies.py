@@ -202,9 +202,10 @@ def switched(reader):
             copies.does('switch', reader.at(path), 'wc')
         copies.does('switch', '--ignore-ancestry', reader.at(path), 'wc')
         copies.alike('switch to %s' % path)
-    # a folder alone
+    # a folder alone, with a short path, so that what comes there is within the limits of paths
     front = main and main + '/'
-    inside = [it[len(front):] for it in reader.nodes(reader.head)[0] if it.startswith(front) and it not in (main, other)][0]
+    folders = [it[len(front):] for it in reader.nodes(reader.head)[0] if it.startswith(front) and it not in (main, other)]
+    inside = min(folders, key=lambda it: (it.count('/'), len(it)))
     copies.does('switch', '--ignore-ancestry', reader.at(other), 'wc/' + inside)
     copies.alike('switch of a folder')
     for number in (older_of(reader, other)[0], reader.head):

@@ -35,7 +35,7 @@ const DENIED: [(&[u8], &[u8]); 9] = [
         b"( success ( ( ) 0: ) ) ( failure ( ( 200007 13:not supported 0: 0 ) ) ) ",
     ),
     (
-        b"( update ( ( 3 ) 0: true unknown false false ) ) ( set-path ( 0: 3 false ( ) infinity ) ) ( link-path ( 5:trunk 24:svn://other:3690/tags/1.0 3 false ( ) infinity ) ) ( finish-report ( ) ) ",
+        b"( update ( ( 3 ) 0: true unknown false false ) ) ( set-path ( 0: 3 false ( ) infinity ) ) ( link-path ( 5:trunk 25:svn://other:3690/tags/1.0 3 false ( ) infinity ) ) ( finish-report ( ) ) ",
         b"( success ( ( ) 0: ) ) ( failure ( ( 170000 23:not the same repository 0: 0 ) ) ) ",
     ),
     (
