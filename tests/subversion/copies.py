@@ -73,6 +73,12 @@ class Copies:
         """The same but for the order of what begins with lines like this."""
         return self.tells(*words, form=lambda it: parts(it, front))
 
+    def marks(self, *words):
+        """`svn status` marks the same, but for folders that are there: the repository marks those too in which a file was replaced."""
+        def is_folder(line):
+            return any(os.path.isdir(os.path.join(it.encode(), line[21:].rstrip(b'\n'))) for it in self.rooms)
+        return self.tells(*words, form=lambda it: [line for line in parts(it, b'') if not is_folder(line)])
+
     def is_refused(self, number, *words):
         """Words that the second URL refuses by this number alone, where nothing comes."""
         status, said, numbers = self.run(1, words)
@@ -211,7 +217,7 @@ def switched(reader):
     for number in (older_of(reader, other)[0], reader.head):
         copies.does('update', '-r', str(number), 'wc')
         copies.alike('update of a switched folder to %d' % number)
-        copies.sections(b'', 'status', '-u', 'wc')
+        copies.marks('status', '-u', 'wc')
         copies.sections(b'Index: ', 'diff', '-r', str(number), 'wc')
     copies.does('switch', '--ignore-ancestry', reader.at(front + inside), 'wc/' + inside)
     copies.alike('switch of a folder back')
