@@ -1,6 +1,8 @@
 -- Refusals: their numbers, their texts, and the line that the program prints.
 use Rattle.std.specs.Prelude.{ℕ, Bool, true, false, ◌&&◌, nat_le, List, [], ◌∷◌, ◌++◌, map, Option, Some, None, if◌then◌else◌, codes, string_bytes}
 use Rattle.std.specs.Fmt.{decimal}
+use Rattle.node_base.specs.declared.told_number.ToldNumber.{ToldNumber}
+use Rattle.node_base.specs.declared.told_number.ToldNumber.TheVariants.{Missing, Spelt, Huge}
 use Rattle.node_base.specs.declared.refusal.Refusal.{Refusal}
 use Rattle.node_base.specs.declared.refusal.Refusal.TheVariants.{BadVersion, BadHeader, BadNumber, BadLength, BadProps, BadSum, Truncated, TooLong, TextDelta, BadPath, NoSuchPath, PathThere, NotDir, NoSource, OutOfOrder, WrongNumber, KindMismatch, NoSuchRevision, BaseMismatch, Full, ReadOnly, Behind, DeviceFailed, Failed, Damaged, NoRepository, ThereAlready, LogFull, BadItem, TooDeep, ReplayForm, BadWindow, CopyWindow, BadToken, UnknownCommand, BadShape, PeerFailed, NotInitialised, AlreadyInitialised, NotEmpty, LockHeld, HolderRunning, WrongMaster, Inconsistent, NotYetCopied, NotHolder, MasterFailed, OutOfTurn, OutOfMemory}
 
@@ -12,14 +14,15 @@ shown_byte b = if nat_le 32 b && nat_le b 126 then b else 63
 abbrev pub shown_token : List ℕ → List ℕ
 shown_token = map shown_byte
 
--- a number, and `-` where there is none
-abbrev pub number_or_dash : Option ℕ → List ℕ
-number_or_dash None = codes "-"
-number_or_dash (Some n) = decimal n
+-- what is told of a number: `-` where there is none, and one from 2^64 on by its digits
+abbrev pub told_text : ToldNumber → List ℕ
+told_text Missing = codes "-"
+told_text (Spelt n) = decimal n
+told_text (Huge digits) = shown_token digits
 
 -- what is told of a mirror whose properties of its synchronisation fit no state
-abbrev pub inconsistent_text : Option ℕ → Option ℕ → ℕ → List ℕ
-inconsistent_text merged copying head = codes "inconsistent: merged " ++ number_or_dash merged ++ codes ", copying " ++ number_or_dash copying ++ codes ", head " ++ decimal head
+abbrev pub inconsistent_text : ToldNumber → ToldNumber → ℕ → List ℕ
+inconsistent_text merged copying head = codes "inconsistent: merged " ++ told_text merged ++ codes ", copying " ++ told_text copying ++ codes ", head " ++ decimal head
 
 -- the number of a refusal
 abbrev pub refusal_number : Refusal → ℕ

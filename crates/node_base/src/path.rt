@@ -9,7 +9,7 @@ ghost use Rattle.std.specs.declared.cmp.Ordering.TheVariants.{Less};
 ghost use Rattle.node_base.specs.Path.{Name, Path, path_cmp, paths_total, is_front, same_path, rest_after};
 ghost use Rattle.node_base.specs.Limits.{fits, weight};
 ghost use Rattle.node_base.specs.Names.{is_name};
-ghost use Rattle.node_base.specs.PathText.{Spells, IsSmall, path_text, slashed, Answers, path_read, child_of, pieces};
+ghost use Rattle.node_base.specs.PathText.{Spells, IsSmall, is_path, path_text, slashed, Answers, path_read, child_of, pieces};
 ghost use Rattle.node_base.specs.PathText.{is_long_name, is_past_limits};
 ghost use Rattle.std.specs.Fmt.{DisplaysOnOk};
 ghost use Rattle.std.specs.List.{list_any};
@@ -21,25 +21,30 @@ use std::alloc::{AllocError, Global};
 use std::cmp::Ordering;
 use std::fmt;
 use std::marker::Model;
+use std::sync::Arc;
 
-/// A path, name by name. The empty path is the root.
+/// A path, name by name. The empty path is the root. Its owners share the names.
 #[derive(Drop)]
 pub struct NodePath {
-    names: Vec<NodeName>,
+    names: Option<Arc<Vec<NodeName>>>,
 }
 
 impl Model for NodePath {
-    ghost use Rattle.std.specs.Prelude.{◌≡◌, true};
-    ghost use Rattle.node_base.specs.Path.{Path, coded_path};
+    ghost use Rattle.std.specs.Prelude.{◌≡◌, true, [], Vec};
+    ghost use Rattle.std.specs.Option.{option_map_or};
+    ghost use Rattle.std.specs.Arc.{arc_value};
+    ghost use Rattle.std.specs.declared.alloc.Global.{Global};
+    ghost use Rattle.node_base.specs.Path.{Name, Path, coded_path};
     ghost use Rattle.node_base.specs.PathText.{is_path};
 
     ghost Value = { Path };
 
     ghost coded = { coded_path };
 
-    ghost view = { λ a. a.names.items };
+    ghost view = { λ a. option_map_or (λ v. (arc_value {X = Vec Name Global} v).items) a.names [] };
 
-    ghost invariant = { λ a. is_path a.names.items ≡ true };
+    ghost invariant = { λ a. is_path (option_map_or (λ v. (arc_value {X = Vec Name Global} v).items) a.names [])
+        ≡ true };
 }
 
 impl NodePath {
@@ -66,7 +71,18 @@ impl NodePath {
         // its text is read as the path
         ensures read { path_read (path_text self.now) ≡ Ok self.now }
     {
-        self.names.as_slice()
+        self.listed()
+    }
+
+    // Its names, which are a path.
+    fn listed(&self) -> &[NodeName]
+        ensures names { result.now ≡ self.now }
+        ensures path { is_path self.now ≡ true }
+    {
+        match &self.names {
+            Some(names) => names.as_slice(),
+            None => &[],
+        }
     }
 
     /// Whether it is the empty path.
@@ -74,14 +90,14 @@ impl NodePath {
     pub fn is_root(&self) -> bool
         ensures { result ≡ same_path self.now [] }
     {
-        self.names.is_empty()
+        self.listed().is_empty()
     }
 
     /// What is above its last name, and that name; nothing for the root.
     pub fn split_last(&self) -> Option<(&[NodeName], &NodeName)>
         ensures { MatchOption result (self.now ≡ []) (λ s. self.now ≡ s.0.now ++ s.1.now ∷ []) }
     {
-        let (last, above) = self.names.split_last()?;
+        let (last, above) = self.listed().split_last()?;
         Some((above, last))
     }
 
@@ -107,9 +123,8 @@ impl NodePath {
     pub fn root(alloc: Global) -> NodePath
         ensures { result ≡ [] }
     {
-        NodePath {
-            names: Vec::new(alloc),
-        }
+        let _ = alloc;
+        NodePath { names: None }
     }
 
     /// The path of a name right below it. Refused: a path past 64 names or 1,024 bytes (`TooLong`).
@@ -120,9 +135,9 @@ impl NodePath {
         if !self.has_room_for(name) {
             return Err(PathFault::TooLong);
         }
-        let mut path = self.copy(alloc)?;
-        path.names.push(name.copy(alloc)?)?;
-        Ok(path)
+        let mut names = copied(alloc, self.listed())?;
+        names.push(name.copy(alloc)?)?;
+        Ok(path_of(alloc, names)?)
     }
 
     /// Whether the path of a name right below it is within 64 names and 1,024 bytes.
@@ -137,16 +152,38 @@ impl NodePath {
         above.len() < PATH_NAMES && weight(above) + len < PATH_BYTES + 1
     }
 
-    /// The same path once more.
+    /// The same path once more, with no copy of the names.
     pub fn copy(&self, alloc: Global) -> Result<NodePath, AllocError>
         ensures { IfOk result (λ p. p ≡ self.now) }
     {
-        let mut names = Vec::with_capacity(alloc, self.names.len())?;
-        for name in &self.names {
-            names.push(name.copy(alloc)?)?;
+        let _ = alloc;
+        match &self.names {
+            Some(names) => Ok(NodePath {
+                names: Some(Arc::try_clone(names)?),
+            }),
+            None => Ok(NodePath { names: None }),
         }
-        Ok(NodePath { names })
     }
+}
+
+// The path of these names.
+fn path_of(alloc: Global, names: Vec<NodeName>) -> Result<NodePath, AllocError>
+    requires { is_path names.items ≡ true }
+    ensures { IfOk result (λ p. p ≡ names.items) }
+{
+    let names = Arc::new(alloc, names)?;
+    Ok(NodePath { names: Some(names) })
+}
+
+// The names once more, with room for another.
+fn copied(alloc: Global, names: &[NodeName]) -> Result<Vec<NodeName>, AllocError>
+    ensures { IfOk result (λ v. v.items ≡ names.now) }
+{
+    let mut all = Vec::with_capacity(alloc, names.len() + 1)?;
+    for name in names {
+        all.push(name.copy(alloc)?)?;
+    }
+    Ok(all)
 }
 
 impl PartialEq for NodePath {
@@ -193,7 +230,7 @@ impl fmt::Display for NodePath {
 
     /// Its names with a `/` between each two, and nothing for the root.
     fn fmt<W: fmt::Write>(&self, f: &mut fmt::Formatter<W>) -> fmt::Result {
-        let Some((first, others)) = self.names.split_first() else {
+        let Some((first, others)) = self.listed().split_first() else {
             return Ok(());
         };
         f.write_str(first.as_str())?;
@@ -224,7 +261,7 @@ fn read_path(alloc: Global, bytes: &[u8]) -> Result<NodePath, PathFault>
     for piece in Pieces::of(bytes) {
         names.push(NodeName::parse(alloc, piece)?)?;
     }
-    Ok(NodePath { names })
+    Ok(path_of(alloc, names)?)
 }
 
 /// Whether bytes have more than 1,024 bytes, 64 names or 255 bytes of a name.

@@ -2,10 +2,9 @@
 ghost use Rattle.std.specs.Prelude.{◌≡◌, ◌<◌, ◌++◌, false, Some, IfOk, codes, string_bytes};
 ghost use Rattle.std.specs.Fmt.{DisplaysOnOk};
 ghost use Rattle.std.specs.Option.{option_map};
-ghost use Rattle.node_base.specs.Refusals.{inconsistent_text, refusal_number, refusal_text, tells_more, shown_byte};
-ghost use Rattle.node_base.specs.Refusals.{shown_token, number_or_dash, fault_line};
+ghost use Rattle.node_base.specs.Refusals.{fault_line, inconsistent_text, refusal_number, refusal_text, tells_more};
 
-use crate::RevNo;
+use crate::{RevNo, ShownToken, ToldNumber};
 use std::alloc::{AllocError, Global};
 use std::fmt;
 
@@ -98,11 +97,10 @@ pub enum Refusal {
     HolderRunning(Vec<u8>),
     /// The source isn't the repository that the mirror was initialized from.
     WrongMaster,
-    /// The mirror's properties of its synchronisation fit no shape in which it rests. A number that is absent, misspelt
-    /// or 2^64 or more is None.
+    /// The mirror's properties of its synchronisation fit no shape in which it rests.
     Inconsistent {
-        merged: Option<u64>,
-        copying: Option<u64>,
+        merged: ToldNumber,
+        copying: ToldNumber,
         head: RevNo,
     },
     /// The mirror hasn't got that revision whole yet.
@@ -269,7 +267,7 @@ impl fmt::Display for Refusal {
                 merged,
                 copying,
                 head,
-            } => write_inconsistent(OrDash(*merged), OrDash(*copying), *head, f),
+            } => write_inconsistent(merged, copying, *head, f),
             Refusal::NotYetCopied(number) => {
                 write_told("revision ", number, " is not copied yet", f)
             }
@@ -294,12 +292,13 @@ fn write_told<T: fmt::Display, W: fmt::Write>(
 
 /// Writes that a mirror's properties of its synchronisation fit no shape in which it rests.
 fn write_inconsistent<W: fmt::Write>(
-    merged: OrDash,
-    copying: OrDash,
+    merged: &ToldNumber,
+    copying: &ToldNumber,
     head: RevNo,
     f: &mut fmt::Formatter<W>,
 ) -> fmt::Result
-    ensures { DisplaysOnOk W.write_str_gives f.old result (Some (inconsistent_text merged.0 copying.0 head)) f.new }
+    ensures { DisplaysOnOk W.write_str_gives f.old result (Some
+        (inconsistent_text merged.now copying.now head)) f.new }
 {
     write!(
         f,
@@ -312,46 +311,4 @@ fn shown(token: &Vec<u8>) -> ShownToken<'_>
     ensures { result.0.now ≡ token.now.items }
 {
     ShownToken(token.as_slice())
-}
-
-/// A token as it is printed: `?` for each byte that isn't printable ASCII.
-#[derive(Drop)]
-pub struct ShownToken<'a>(pub &'a [u8]);
-
-impl fmt::Display for ShownToken<'_> {
-    ghost output = { λ t. Some (shown_token t.0.now) };
-
-    fn fmt<W: fmt::Write>(&self, f: &mut fmt::Formatter<W>) -> fmt::Result {
-        for byte in self.0 {
-            f.write_char(char::from(shown_byte(*byte)))?;
-        }
-        Ok(())
-    }
-}
-
-/// A byte of a token as it is printed: `?` where it isn't printable ASCII.
-pub fn shown_byte(byte: u8) -> u8
-    ensures shown { result ≡ shown_byte byte }
-    ensures ascii { result < 128 }
-{
-    if (0x20..=0x7E).contains(&byte) {
-        byte
-    } else {
-        b'?'
-    }
-}
-
-/// A number as it is printed, and `-` where there is none.
-#[derive(Drop)]
-struct OrDash(Option<u64>);
-
-impl fmt::Display for OrDash {
-    ghost output = { λ n. Some (number_or_dash n.0) };
-
-    fn fmt<W: fmt::Write>(&self, f: &mut fmt::Formatter<W>) -> fmt::Result {
-        match self.0 {
-            Some(number) => write!(f, "{number}"),
-            None => f.write_str("-"),
-        }
-    }
 }

@@ -1,7 +1,7 @@
 //! The refusals' numbers and texts: vectors from outside.
 
 use crate::checked::{all_hold, is_text, none_is_wrong};
-use node_base::{PathFault, PropFault, Refusal, RevNo, TextFault, TreeFault};
+use node_base::{PathFault, PropFault, Refusal, RevNo, TextFault, ToldNumber, TreeFault};
 use std::alloc::Global;
 use std::process::Abort;
 
@@ -60,8 +60,8 @@ fn of_master(rt: &impl Abort, alloc: Global, inner: Refusal) -> Refusal {
 fn refusals_of_a_master(rt: HostRuntime) {
     let alloc = rt.alloc();
     let inconsistent = Refusal::Inconsistent {
-        merged: Some(4),
-        copying: None,
+        merged: ToldNumber::Spelt(4),
+        copying: ToldNumber::Missing,
         head: RevNo::new(6),
     };
     let told = of_master(&rt, alloc, inconsistent);

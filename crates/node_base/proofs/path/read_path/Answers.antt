@@ -21,8 +21,8 @@ loop-piece-preserved c =
     let both = piece_taken c.args.bytes.now c.loop-piece.names.items (pieces_left c.next.new.self.rest) c.in-Some.piece.now c.in_ok-parse.field-0 split c.loop-piece.invariant.good c.in_ok-parse.ensures.read in
     record { read = rw c.in_ok-push.ensures.items both.0; good = rw c.in_ok-push.ensures.items both.1 }
 
-pub invariant_of-result : goal.invariant_of-result
-invariant_of-result c =
+pub path_of-requires : goal.path_of-requires
+path_of-requires c =
     let small : is_past_limits c.args.bytes.now ≡ false = sym c.is_past_limits.ensures ∙ c.if-is_past_limits.false in
     let read = c.loop-piece.invariant.read ∙ ap (λ (p : Path). c.loop-piece.names.items ++ p) c.in-None.ensures.steps.0 ∙ append-nil c.loop-piece.names.items in
     rw (← read) (test_of_kept (pieces c.args.bytes.now) (fits_within c.args.bytes.now small) (ap (list_all is_name) read ∙ c.loop-piece.invariant.good) (not_long c.args.bytes.now small))

@@ -1,7 +1,7 @@
 use Rattle.std.proofs.Common.{take}
 use Rattle.std.specs.Fmt.{HasWritten, IsPlainFormatter}
 use Rattle.node_base.specs.Refusals.{shown_token}
-use Rattle.node_base.proofs.refusal.ShownTokenDisplay.fmt.Given as goal
+use Rattle.node_base.proofs.shown.ShownTokenDisplay.fmt.Given as goal
 
 abbrev pub invariant-loop-byte : goal.invariant-loop-byte
 invariant-loop-byte g l =
