@@ -1,7 +1,8 @@
--- What is known of streams for tests.
+-- What is known of streams for tests, and of a writer to memory.
 use Rattle.std.specs.Prelude.{ℕ, List}
 use Rattle.byte_streams.specs.declared.fuse.FuseInput.{FuseInput}
 use Rattle.byte_streams.specs.declared.memory.MemOutput.{MemOutput}
+use Rattle.byte_streams.specs.declared.vec_writer.VecWriter.{VecWriter}
 
 -- the input that takes the reads that pass
 abbrev pub inner_of : {I : Type 0} → FuseInput I → I
@@ -26,3 +27,7 @@ handed_of output = output.handed_on
 -- how often it failed
 abbrev pub failures_of : MemOutput → ℕ
 failures_of output = output.failures
+
+-- what was written to memory
+abbrev pub written_in : VecWriter → List ℕ
+written_in writer = writer.bytes.items

@@ -9,6 +9,7 @@ mod lent;
 mod memory;
 mod output;
 mod sink;
+mod vec_writer;
 
 pub use counted::{CountedReader, CountedWriter};
 pub use fault::{SinkFault, StreamFault};
@@ -18,3 +19,4 @@ pub use lent::Lent;
 pub use memory::MemOutput;
 pub use output::{Output, has_failed_since, write_bytes};
 pub use sink::Sink;
+pub use vec_writer::VecWriter;
