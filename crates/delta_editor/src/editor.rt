@@ -1,8 +1,8 @@
 //! The trait of an editor.
-ghost use Rattle.std.specs.Prelude.{◌≡◌, List, [], ◌∷◌, ◌++◌, IfOk, IfErr, OnOk};
+ghost use Rattle.std.specs.Prelude.{◌≡◌, List, [], ◌∷◌, ◌++◌, IfOk, IfErr, OnOk, OnErr};
 ghost use Rattle.std.specs.Option.{option_copied, option_map};
 ghost use Rattle.node_base.specs.Path.{Path};
-ghost use Rattle.delta_editor.specs.Calls.{Call, Adds, Refused};
+ghost use Rattle.delta_editor.specs.Calls.{Call, Adds, LetsGo, Refused, StaysShown};
 ghost use Rattle.delta_editor.specs.declared.call.Call.TheVariants as call;
 ghost use Rattle.delta_editor.specs.declared.fault.EditorFault.{EditorFault};
 
@@ -43,6 +43,12 @@ pub trait Editor {
         → Type 0  -- where it began with that, after such calls, the refusals that the next call may meet
     };
 
+    ghost lets_go: { Self → List Path → Type 0  -- what is open that it was let go of, in order: a discard has added itself
+    };
+
+    ghost given_up: { Self → Type 0  -- it was given up, by `abort_edit` or by a `close_edit` that was refused
+    };
+
     /// Names the revision that is shown.
     fn target(&mut self, rev: RevNo) -> Result<(), EditorFault>
         ensures shown { OnOk result (Adds shows self.old self.new (call.Target rev ∷ [])) }
@@ -62,10 +68,12 @@ pub trait Editor {
         ensures shown { IfOk result (λ d. (calls : List Call) → shows self calls
             → done_shows d (calls ++ call.CloseEdit ∷ [])) }
         ensures began { IfOk result (λ d. done_began d ≡ began self) }
-        ensures refused { IfErr result (Refused shows began refuses self call.CloseEdit) };
+        ensures refused { IfErr result (Refused shows began refuses self call.CloseEdit) }
+        ensures given_up { OnErr result (given_up self) };
 
     /// Gives the edit up after a refusal.
-    fn abort_edit(self);
+    fn abort_edit(self)
+        ensures { given_up self };
 
     /// A directory that is open.
     type Dir;
@@ -138,7 +146,9 @@ pub trait Editor {
 
     /// Lets go of an open directory after a refusal.
     fn discard_dir(&mut self, dir: Self::Dir)
-        ensures { began self.new ≡ began self.old };
+        ensures began { began self.new ≡ began self.old }
+        ensures shown { StaysShown shows self.old self.new }
+        ensures let_go { LetsGo lets_go self.old self.new (dir_path dir ∷ []) };
 
     /// A file that is open.
     type File;
@@ -221,5 +231,7 @@ pub trait Editor {
 
     /// Lets go of an open file after a refusal.
     fn discard_file(&mut self, file: Self::File)
-        ensures { began self.new ≡ began self.old };
+        ensures began { began self.new ≡ began self.old }
+        ensures shown { StaysShown shows self.old self.new }
+        ensures let_go { LetsGo lets_go self.old self.new (file_path file ∷ []) };
 }

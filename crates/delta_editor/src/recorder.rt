@@ -121,6 +121,11 @@ impl Editor for Recorder {
 
     ghost refuses = { λ nothing calls c e. e ≡ OutOfMemory };
 
+    // It keeps neither what it is let go of nor that it is given up.
+    ghost lets_go = { λ r paths. Unit {0} };
+
+    ghost given_up = { λ r. Unit {0} };
+
     fn target(&mut self, rev: RevNo) -> Result<(), EditorFault> {
         self.keep(Call::Target(rev))?;
         Ok(())

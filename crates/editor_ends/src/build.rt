@@ -169,6 +169,11 @@ impl<'a> Editor for BuildEditor<'a> {
 
     ghost refuses = { RefusesWithin };
 
+    // It keeps neither what it is let go of nor that it is given up.
+    ghost lets_go = { λ e paths. Unit {0} };
+
+    ghost given_up = { λ e. Unit {0} };
+
     fn target(&mut self, rev: RevNo) -> Result<(), EditorFault> {
         if rev.index() == self.trees.len() {
             Ok(())

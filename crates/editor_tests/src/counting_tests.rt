@@ -102,6 +102,10 @@ impl<'a> Editor for Counting<'a> {
 
     ghost refuses = { λ nothing calls c e. ⊤ };
 
+    ghost lets_go = { λ e paths. ⊤ };
+
+    ghost given_up = { λ e. ⊤ };
+
     fn target(&mut self, rev: RevNo) -> Result<(), EditorFault> {
         self.take()
     }

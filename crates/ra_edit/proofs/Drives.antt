@@ -4,12 +4,12 @@ use Rattle.ra_item.specs.Items.{Item}
 use Rattle.ra_item.specs.Streams.{Stream}
 use Rattle.delta_editor.specs.declared.call.Call.{Call}
 use Rattle.ra_edit.specs.Edits.{At, Begun, Ended, Says, AllSay, Nothing, Then, IsCommand}
-use Rattle.ra_edit.specs.Edit.{Stands, Moves, Finishes}
+use Rattle.ra_edit.specs.Edit.{Stands, Moves, Finishes, GivesUp}
 use Rattle.byte_streams.specs.Causes.{Counts, Fails}
 use Rattle.ra_edit.specs.EditFaults.{of_command}
 use Rattle.ra_item.specs.ItemStreams.{Takes, Ends, Stops}
-use Rattle.ra_edit.specs.Received.{Goes, Comes, Received, IsRefused, StopsBehind, ShownBefore, RefusesDrive}
-use Rattle.ra_edit.specs.Refusals.{refusal, RefusedFor, Meets, IfOwn}
+use Rattle.ra_edit.specs.Received.{Goes, Comes, Received, IsRefused, StopsBehind, ShownBefore, StillOpen, StopsWith, Abandons}
+use Rattle.ra_edit.specs.Refusals.{refusal, RefusedFor, Meets, IfOwn, paths_at}
 use Rattle.ra_edit.specs.declared.receive_command.Command.{Command}
 use Rattle.node_base.specs.Path.{Path}
 use Rattle.delta_editor.specs.declared.fault.EditorFault.{EditorFault}
@@ -22,6 +22,7 @@ use Rattle.ra_edit.specs.declared.receive_edit.Stage.TheVariants as stage
 use Rattle.ra_edit.specs.declared.edit_fault.EditFault.{EditFault}
 use Rattle.ra_item.proofs.Streaming.{takes_none, takes_more, takes_end, takes_stop}
 use Rattle.ra_edit.proofs.OwnRefusals.{own_map, met_before}
+use Rattle.ra_edit.proofs.LeftOpen.{all_still}
 use Rattle.ra_edit.proofs.Steps.{adds_join}
 
 -- one item more
@@ -98,16 +99,26 @@ stops_behind own met xs at stood f a b d s t before spent now failed lift here p
 stops_behind own met xs at stood f a b d s t before spent now failed lift here p g h (inr (inl q)) = inr (inl (q.0, subst (λ l. Ends l true a d s) (append-nil xs) (takes_end xs [] true a b d s t p q.1)))
 stops_behind own met xs at stood f a b d s t before spent now failed lift here p g h (inr (inr q)) = inr (inr (record { item = q.item; why = q.why; is = q.is; taken = takes_more xs (q.item ∷ []) a b d s t q.is p q.taken; same = q.same; due = λ x e. subst (λ y. IsRefused met y q.item q.why) (sym e) (lifted own met at q.item q.why lift (q.due at here)) }))
 
-pub drive_refused : {E O : Type 0} (shows : E → List Call → Type 0) (began : E → O) (refuses : O → List Call → Call → EditorFault → Type 0) (old mid : E) (a b d : Option (List ℕ)) (s t : List ℕ → Stream) (before spent : Bool) (now failed : Counts) (stood : At → Type 0) (f : EditFault) → began mid ≡ began old → ((x : At) → stood x → x ≡ Ended → ⊥) → Goes shows old mid a b s t stood → (spent ≡ true → before ≡ true) → (Fails now → Fails failed) → StopsBehind (Meets shows began refuses mid) [] stood b d t spent now f → RefusesDrive shows began refuses old a d s before failed f
-drive_refused shows began refuses old mid a b d s t before spent now failed stood f same stay k g h q = record { items = k.items; calls = k.calls; at = k.at; say = k.say; unended = stay k.at k.here; stops = stops_behind (Meets shows began refuses mid) (Meets (ShownBefore shows k.calls) began refuses old) k.items k.at stood f a b d s t before spent now failed (λ c e. met_before shows began refuses old mid k.calls k.at c e k.shown same) k.here k.taken g h q }
+pub drive_stops : {E O : Type 0} (shows : E → List Call → Type 0) (began : E → O) (refuses : O → List Call → Call → EditorFault → Type 0) (old mid : E) (a b d : Option (List ℕ)) (s t : List ℕ → Stream) (before spent : Bool) (now failed : Counts) (stood : At → Type 0) (paths : List Path) (f : EditFault) → began mid ≡ began old → ((x : At) → stood x → x ≡ Ended → ⊥) → Goes shows old mid a b s t stood → (spent ≡ true → before ≡ true) → (Fails now → Fails failed) → StopsBehind (Meets shows began refuses mid) [] stood b d t spent now f → ((x : At) → stood x → StillOpen x f paths) → StopsWith shows began refuses old a d s before failed paths f
+drive_stops shows began refuses old mid a b d s t before spent now failed stood paths f same stay k g h q still = record {
+  drive = record { items = k.items; calls = k.calls; at = k.at; say = k.say; unended = stay k.at k.here; stops = stops_behind (Meets shows began refuses mid) (Meets (ShownBefore shows k.calls) began refuses old) k.items k.at stood f a b d s t before spent now failed (λ c e. met_before shows began refuses old mid k.calls k.at c e k.shown same) k.here k.taken g h q };
+  still = still k.at k.here;
+}
 
 -- at the end of a drive
-pub end_refused : {E O : Type 0} (shows : E → List Call → Type 0) (began : E → O) (refuses : O → List Call → Call → EditorFault → Type 0) (start old new : E) (a b : Option (List ℕ)) (s t : List ℕ → Stream) (before : Bool) (failed : Counts) (stands : At → Type 0) (f : CommandFault) → old ≡ start → began new ≡ began old → ((at : At) → stands at → RefusedFor f (refusal at command.Finish)) → IfOwn (λ e. (at : At) → stands at → Meets shows began refuses new at command.Finish e) f → ((x : At) → stands x → x ≡ Ended → ⊥) → Comes shows old new a b s t stands → RefusesDrive shows began refuses start a b s before failed (of_command f)
-end_refused shows began refuses start old new a b s t before failed stands f is same why own stay k = subst (λ x. RefusesDrive shows began refuses x a b s before failed (of_command f)) is (record {
-  items = k.items;
-  calls = k.calls;
-  at = k.at;
-  say = k.say;
-  unended = stay k.at k.here;
-  stops = inr (inr (record { item = k.last; why = f; is = t; taken = k.taken; same = refl; due = λ x e. subst (λ y. IsRefused (Meets (ShownBefore shows k.calls) began refuses old) y k.last f) (sym e) (inr (command.Finish, k.end, why k.at k.here, own_map f (λ g m. met_before shows began refuses old new k.calls k.at command.Finish g k.shown same (m k.at k.here)) own)) }));
-})
+pub end_stops : {E O : Type 0} (shows : E → List Call → Type 0) (began : E → O) (refuses : O → List Call → Call → EditorFault → Type 0) (old new : E) (a b : Option (List ℕ)) (s t : List ℕ → Stream) (before : Bool) (failed : Counts) (stands : At → Type 0) (paths : List Path) (f : CommandFault) → began new ≡ began old → ((at : At) → stands at → RefusedFor f (refusal at command.Finish)) → IfOwn (λ e. (at : At) → stands at → Meets shows began refuses new at command.Finish e) f → ((x : At) → stands x → x ≡ Ended → ⊥) → ((x : At) → stands x → paths ≡ paths_at x) → Comes shows old new a b s t stands → StopsWith shows began refuses old a b s before failed paths (of_command f)
+end_stops shows began refuses old new a b s t before failed stands paths f same why own stay open_there k = record {
+  drive = record {
+    items = k.items;
+    calls = k.calls;
+    at = k.at;
+    say = k.say;
+    unended = stay k.at k.here;
+    stops = inr (inr (record { item = k.last; why = f; is = t; taken = k.taken; same = refl; due = λ x e. subst (λ y. IsRefused (Meets (ShownBefore shows k.calls) began refuses old) y k.last f) (sym e) (inr (command.Finish, k.end, why k.at k.here, own_map f (λ g m. met_before shows began refuses old new k.calls k.at command.Finish g k.shown same (m k.at k.here)) own)) }));
+  };
+  still = all_still k.at (of_command f) paths (open_there k.at k.here);
+}
+
+-- and the edit is given up
+pub abandons : {E O : Type 0} (shows : E → List Call → Type 0) (began : E → O) (refuses : O → List Call → Call → EditorFault → Type 0) (lets_go : E → List Path → Type 0) (given_up : E → Type 0) (start old : E) (a b : Option (List ℕ)) (s : List ℕ → Stream) (before : Bool) (failed : Counts) (paths : List Path) (f : EditFault) → old ≡ start → StopsWith shows began refuses old a b s before failed paths f → GivesUp lets_go given_up paths → Abandons shows began refuses lets_go given_up start a b s before failed f
+abandons shows began refuses lets_go given_up start old a b s before failed paths f is k g = record { paths = paths; stops = subst (λ x. StopsWith shows began refuses x a b s before failed paths f) is k; gives_up = g }

@@ -13,3 +13,5 @@ pub mod Asked
 pub mod NotRefused
 pub mod NotRead
 pub mod OwnRefusals
+pub mod Discarded
+pub mod LeftOpen

@@ -5,11 +5,11 @@ use Rattle.svndiff.specs.Reading.{is_between}
 use Rattle.svndiff.specs.declared.reading.Reading.{Reading}
 use Rattle.ra_item.specs.Items.{Item}
 use Rattle.node_base.specs.Path.{Path}
-use Rattle.delta_editor.specs.Calls.{Adds}
+use Rattle.delta_editor.specs.Calls.{Adds, LetsGo}
 use Rattle.delta_editor.specs.declared.call.Call.{Call}
 use Rattle.ra_edit.specs.Edits.{Held, Dir, Fresh, Within, Told, Named, named, At, Begun, Targeted, Inside, Announced, Ended, Says, IsCommand}
 use Rattle.ra_edit.specs.Receiving.{Forms}
-use Rattle.ra_edit.specs.Refusals.{due, RefusedFor, Meets}
+use Rattle.ra_edit.specs.Refusals.{due, left_open, RefusedFor, Meets}
 use Rattle.delta_editor.specs.declared.fault.EditorFault.{EditorFault}
 use Rattle.ra_edit.specs.declared.command_fault.CommandFault.{CommandFault}
 use Rattle.ra_edit.specs.declared.receive_command.Command.{Command}
@@ -30,6 +30,14 @@ dir_named path d = named d.token.items (path d.baton) Dir
 -- those that are open, the innermost first
 abbrev pub dirs_named : {D : Type 0} → (D → Path) → List (OpenDir D) → List Named
 dirs_named path ds = reverse (map (dir_named path) ds)
+
+-- the paths of open directories, the innermost first; of all that is open, where a file is the innermost
+abbrev pub dir_paths : {D : Type 0} → (D → Path) → List (OpenDir D) → List Path
+dir_paths path ds = map (λ (o : Named). o.path) (dirs_named path ds)
+
+abbrev pub open_paths : {D F : Type 0} → (D → Path) → (F → Path) → List (OpenDir D) → Option (OpenFile F) → List Path
+open_paths dir_path file_path ds None = dir_paths dir_path ds
+open_paths dir_path file_path ds (Some f) = file_path f.baton ∷ dir_paths dir_path ds
 
 -- what was given of a file's text
 abbrev pub GivenIs : Given → Held → Type 0
@@ -122,3 +130,19 @@ RefusedAs dir_path file_path e c f = (at : At) → StandsAt dir_path file_path e
 -- the editor refuses one of the calls that it asks for
 abbrev pub MetAs : {E D F T O : Type 0} → (D → Path) → (F → Path) → (E → List Call → Type 0) → (E → O) → (O → List Call → Call → EditorFault → Type 0) → Edit E T D F → Command → EditorFault → Type 0
 MetAs dir_path file_path shows began refuses e c f = (at : At) → StandsAt dir_path file_path e at → Meets shows began refuses e.editor at c f
+
+-- ---- what is open after a refusal
+
+-- the paths of all that is open in an edit, the innermost first
+abbrev pub all_open : {E D F T : Type 0} → (D → Path) → (F → Path) → Edit E T D F → List Path
+all_open dir_path file_path e = open_paths dir_path file_path e.dirs.items e.file
+
+abbrev pub LeavesOpen : {E D F T : Type 0} → (D → Path) → (F → Path) → Edit E T D F → Edit E T D F → Command → CommandFault → Type 0
+LeavesOpen dir_path file_path old new c f = all_open dir_path file_path new ≡ left_open c f (all_open dir_path file_path old)
+
+-- an editor was let go of what is open at these paths, in order, and then given up
+pub record GivesUp {E : Type 0} (lets_go : E → List Path → Type 0) (given_up : E → Type 0) (paths : List Path) : Type 0 where
+  pub stopped : E
+  pub last : E
+  pub discarded : LetsGo lets_go stopped last paths
+  pub ended : given_up last

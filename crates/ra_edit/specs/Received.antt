@@ -1,20 +1,22 @@
 -- What was read of a drive, and what its editor was shown.
 use Rattle.std.specs.Prelude.{◌≡◌, ◌⊎◌, ℕ, Bool, true, List, [], ◌∷◌, ◌++◌, Option}
 use Rattle.ra_item.specs.Items.{Item}
+use Rattle.node_base.specs.Path.{Path}
 use Rattle.ra_item.specs.Streams.{Stream}
 use Rattle.delta_editor.specs.Calls.{Adds}
 use Rattle.delta_editor.specs.declared.call.Call.{Call}
 use Rattle.delta_editor.specs.declared.fault.EditorFault.{EditorFault}
 use Rattle.ra_edit.specs.Edits.{At, Begun, Ended, AllSay, SpellsEdit, IsCommand}
-use Rattle.ra_edit.specs.Edit.{Stepped}
+use Rattle.ra_edit.specs.Edit.{Stepped, StandsAt, all_open, GivesUp}
 use Rattle.byte_streams.specs.Causes.{Counts}
 use Rattle.ra_item.specs.declared.fault.NextFault.{NextFault}
 use Rattle.ra_edit.specs.EditFaults.{of_command, of_next, of_shape}
 use Rattle.ra_edit.specs.Receiving.{Forms, IsNoCommand}
-use Rattle.ra_edit.specs.Refusals.{refusal, RefusedFor, IfOwn, Meets}
+use Rattle.ra_edit.specs.Refusals.{refusal, RefusedFor, IfOwn, Meets, paths_at, but_innermost}
 use Rattle.ra_item.specs.ItemStreams.{Takes, Ends, Stops}
 use Rattle.ra_edit.specs.declared.command_fault.CommandFault.{CommandFault}
 use Rattle.ra_edit.specs.declared.receive_command.Command.{Command}
+use Rattle.ra_edit.specs.declared.receive_edit.Edit.{Edit}
 use Rattle.ra_edit.specs.declared.shape_fault.ShapeFault.{ShapeFault}
 use Rattle.ra_edit.specs.declared.edit_fault.EditFault.{EditFault}
 use Rattle.ra_edit.specs.declared.edit_fault.EditFault.TheVariants as fault
@@ -87,3 +89,23 @@ pub record RefusesDrive {E O : Type 0} (shows : E → List Call → Type 0) (beg
   pub say : AllSay Begun items calls at
   pub unended : at ≡ Ended → ⊥
   pub stops : StopsBehind (Meets (ShownBefore shows calls) began refuses editor) items (λ a. a ≡ at) before after was spent failed f
+
+-- what is open where a drive was refused: all that was; where the editor refused a call, which may have been a close, perhaps all but the innermost
+abbrev pub StillOpen : At → EditFault → List Path → Type 0
+StillOpen at (fault.Editor e) paths = (paths ≡ paths_at at) ⊎ (paths ≡ but_innermost (paths_at at))
+StillOpen at f paths = paths ≡ paths_at at
+
+-- the next command of an edit was refused, and this is open
+abbrev pub LeavesStill : {E D F T : Type 0} → (D → Path) → (F → Path) → Edit E T D F → Edit E T D F → EditFault → Type 0
+LeavesStill dir_path file_path old new f = (at : At) → StandsAt dir_path file_path old at → StillOpen at f (all_open dir_path file_path new)
+
+-- a drive was refused, and this is open
+pub record StopsWith {E O : Type 0} (shows : E → List Call → Type 0) (began : E → O) (refuses : O → List Call → Call → EditorFault → Type 0) (editor : E) (before after : Option (List ℕ)) (was : List ℕ → Stream) (spent : Bool) (failed : Counts) (paths : List Path) (f : EditFault) : Type 0 where
+  pub drive : RefusesDrive shows began refuses editor before after was spent failed f
+  pub still : StillOpen drive.at f paths
+
+-- a drive was refused; what was open was let go of, the innermost first, and the edit was given up
+pub record Abandons {E O : Type 0} (shows : E → List Call → Type 0) (began : E → O) (refuses : O → List Call → Call → EditorFault → Type 0) (lets_go : E → List Path → Type 0) (given_up : E → Type 0) (editor : E) (before after : Option (List ℕ)) (was : List ℕ → Stream) (spent : Bool) (failed : Counts) (f : EditFault) : Type 0 where
+  pub paths : List Path
+  pub stops : StopsWith shows began refuses editor before after was spent failed paths f
+  pub gives_up : GivesUp lets_go given_up paths

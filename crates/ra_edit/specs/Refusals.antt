@@ -140,6 +140,29 @@ RefusedFor f what = what ≡ Some f
 abbrev pub NothingDue : Type 0
 NothingDue = (at to : At) (item : Item) (calls : List Call) (c : Command) → Says at item calls to → Forms c item → refusal at c ≡ None
 
+-- ---- what is open after a refusal
+
+abbrev pub is_close : Command → Bool
+is_close (command.CloseDir t) = true
+is_close (command.CloseFile t sum) = true
+is_close _ = false
+
+abbrev pub is_editors : CommandFault → Bool
+is_editors (fault.Editor e) = true
+is_editors _ = false
+
+abbrev pub but_innermost : List Path → List Path
+but_innermost [] = []
+but_innermost (p ∷ ps) = ps
+
+-- what was open is; but a close that the editor refused took the innermost
+abbrev pub left_open : Command → CommandFault → List Path → List Path
+left_open c f paths = if is_close c && is_editors f then but_innermost paths else paths
+
+-- the paths of what is open where the commands stand, the innermost first
+abbrev pub paths_at : At → List Path
+paths_at at = map (λ (o : Named). o.path) (open_of at)
+
 -- ---- the editor's own refusals
 
 -- some of these calls were shown, and the next one may be refused so

@@ -1,13 +1,13 @@
 //! An edit from its items.
 
 ghost use Rattle.std.specs.Prelude.{◌≡◌, ◌≤◌, ◌<◌, IfOk, IfErr, OnOk, OnErr, [], true, false};
-ghost use Rattle.ra_edit.specs.Edit.{StandsAt};
+ghost use Rattle.ra_edit.specs.Edit.{StandsAt, all_open};
 ghost use Rattle.ra_edit.specs.Edits.{Begun};
 ghost use Rattle.ra_item.specs.ItemStreams.{reader_of, meanwhile, is_spent, left, ahead};
 ghost use Rattle.byte_streams.specs.Causes.{Fails};
 ghost use Rattle.ra_edit.specs.declared.edit_fault.EditFault.TheVariants.{PeerFailed};
 ghost use Rattle.ra_edit.specs.Refusals.{Meets};
-ghost use Rattle.ra_edit.specs.Received.{Comes, TakesOne, Received, StopsBehind, RefusesDrive};
+ghost use Rattle.ra_edit.specs.Received.{Comes, TakesOne, Received, LeavesStill, StopsBehind, StopsWith, Abandons};
 
 use crate::edit_fault::EditFault;
 use crate::receive_command::Command;
@@ -36,7 +36,7 @@ pub fn receive<I: Input + Drop, E: Editor>(
         (I.remaining (reader_of items.new)) (ahead items.old) (ahead items.new)) }
     ensures began { IfOk result (λ done. E.done_began done ≡ E.began editor) }
     ensures refused { IfErr result
-        (RefusesDrive E.shows E.began E.refuses editor (I.remaining (reader_of items.old))
+        (Abandons E.shows E.began E.refuses E.lets_go E.given_up editor (I.remaining (reader_of items.old))
         (I.remaining (reader_of items.new)) (ahead items.old) (is_spent items.old)
         (meanwhile I.failures I.reads items.old items.new)) }
     ensures peer { IfErr result (λ f. f ≡ PeerFailed → Fails (meanwhile I.failures I.reads items.old items.new)) }
@@ -72,9 +72,9 @@ fn take_commands<I: Input + Drop, E: Editor>(
         (I.remaining (reader_of items.new)) (ahead items.old) (ahead items.new)
         (StandsAt E.dir_path E.file_path edit.new)) }
     ensures refused { IfErr result
-        (RefusesDrive E.shows E.began E.refuses edit.old.editor (I.remaining (reader_of items.old))
+        (StopsWith E.shows E.began E.refuses edit.old.editor (I.remaining (reader_of items.old))
         (I.remaining (reader_of items.new)) (ahead items.old) (is_spent items.old)
-        (meanwhile I.failures I.reads items.old items.new)) }
+        (meanwhile I.failures I.reads items.old items.new) (all_open E.dir_path E.file_path edit.new)) }
     ensures failures { I.failures (reader_of items.old) ≤ I.failures (reader_of items.new) }
     ensures goes_on { OnOk result (is_spent items.new ≡ false) }
 {
@@ -102,6 +102,7 @@ fn take_command<I: Input + Drop, E: Editor>(
         (StandsAt E.dir_path E.file_path edit.old)
         (I.remaining (reader_of items.old)) (I.remaining (reader_of items.new)) (ahead items.old) (is_spent items.old)
         (meanwhile I.failures I.reads items.old items.new)) }
+    ensures still { IfErr result (LeavesStill E.dir_path E.file_path edit.old edit.new) }
     ensures failures { I.failures (reader_of items.old) ≤ I.failures (reader_of items.new) }
     ensures goes_on { OnOk result (is_spent items.new ≡ false) }
     ensures fewer { OnOk result (left items.new < left items.old) }

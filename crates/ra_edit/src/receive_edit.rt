@@ -8,7 +8,7 @@ ghost use Rattle.std.specs.List.{concat};
 ghost use Rattle.md5.specs.Md5.{Holds, md5};
 ghost use Rattle.ra_item.specs.Items.{Item};
 ghost use Rattle.node_base.specs.Path.{same_name};
-ghost use Rattle.delta_editor.specs.Calls.{Adds};
+ghost use Rattle.delta_editor.specs.Calls.{Adds, LetsGo, StaysShown};
 ghost use Rattle.delta_editor.specs.declared.call.Call.{Call};
 ghost use Rattle.delta_editor.specs.declared.call.Call.TheVariants as call;
 ghost use Rattle.svndiff.specs.Streams.{reading, Reads};
@@ -21,8 +21,8 @@ ghost use Rattle.ra_edit.specs.Refusals.{at_chunk, at_end, at_close, is_finish, 
 ghost use Rattle.ra_edit.specs.Refusals.{RefusesOne, Meets, IfOwn};
 ghost use Rattle.ra_edit.specs.declared.command_fault.CommandFault.{CommandFault};
 ghost use Rattle.ra_edit.specs.declared.command_fault.CommandFault.TheVariants as fault;
-ghost use Rattle.ra_edit.specs.Edit.{StandsAt, Performs, RefusedAs, MetAs, GivenIs, dirs_named, is_unopened, is_announced, has_root, TextEnds};
-ghost use Rattle.ra_edit.specs.Edit.{SumIs, FileMoves, Stepped, Finishes};
+ghost use Rattle.ra_edit.specs.Edit.{StandsAt, Performs, RefusedAs, MetAs, GivenIs, dirs_named, is_unopened, is_announced, has_root, dir_paths, TextEnds};
+ghost use Rattle.ra_edit.specs.Edit.{SumIs, FileMoves, Stepped, Finishes, all_open, LeavesOpen, GivesUp};
 ghost use Rattle.ra_edit.specs.declared.receive_command.Command.TheVariants as command;
 ghost use Rattle.ra_edit.specs.declared.receive_edit.Given.TheVariants as given;
 
@@ -116,6 +116,7 @@ impl<E: Editor> Edit<E> {
             → StandsAt E.dir_path E.file_path self.old at
             → RefusedFor f (refusal at command)) }
         ensures own { IfErr result (IfOwn (MetAs E.dir_path E.file_path E.shows E.began E.refuses self.old command)) }
+        ensures still { IfErr result (LeavesOpen E.dir_path E.file_path self.old self.new command) }
         ensures began { E.began self.new.editor ≡ E.began self.old.editor }
     {
         if let Command::Finish = &command {
@@ -134,6 +135,7 @@ impl<E: Editor> Edit<E> {
         ensures refused { IfErr result
             (λ f. is_finish command ≡ false → RefusedAs E.dir_path E.file_path self.old command f) }
         ensures own { IfErr result (IfOwn (MetAs E.dir_path E.file_path E.shows E.began E.refuses self.old command)) }
+        ensures still { IfErr result (LeavesOpen E.dir_path E.file_path self.old self.new command) }
         ensures began { E.began self.new.editor ≡ E.began self.old.editor }
     {
         match command {
@@ -161,6 +163,7 @@ impl<E: Editor> Edit<E> {
         ensures moved { OnOk result (Performs E.dir_path E.file_path E.shows self.old self.new (command.Target rev)) }
         ensures refused { IfErr result (RefusedAs E.dir_path E.file_path self.old (command.Target rev)) }
         ensures own { IfErr result (IfOwn (MetAs E.dir_path E.file_path E.shows E.began E.refuses self.old (command.Target rev))) }
+        ensures still { IfErr result (LeavesOpen E.dir_path E.file_path self.old self.new (command.Target rev)) }
         ensures began { E.began self.new.editor ≡ E.began self.old.editor }
     {
         let Stage::Begun = self.stage else {
@@ -195,6 +198,7 @@ impl<E: Editor> Edit<E> {
         ensures moved { OnOk result (Performs E.dir_path E.file_path E.shows self.old self.new (command.OpenRoot base token)) }
         ensures refused { IfErr result (RefusedAs E.dir_path E.file_path self.old (command.OpenRoot base token)) }
         ensures own { IfErr result (IfOwn (MetAs E.dir_path E.file_path E.shows E.began E.refuses self.old (command.OpenRoot base token))) }
+        ensures still { IfErr result (LeavesOpen E.dir_path E.file_path self.old self.new (command.OpenRoot base token)) }
         ensures began { E.began self.new.editor ≡ E.began self.old.editor }
     {
         if !self.is_unopened() {
@@ -215,6 +219,7 @@ impl<E: Editor> Edit<E> {
             → StandsAt E.dir_path E.file_path self.old at
             → RefusedFor f (unless (is_in_dir token.now (open_of at)) fault.BadToken)) }
         ensures own { IfErr result (IfOwn (λ f. ⊥)) }
+        ensures kept { OnErr result (self.new.dirs.items ≡ self.old.dirs.items) }
         ensures room { OnOk result ((vec_len self.new.dirs + 1 ≡ vec_len self.old.dirs)
             × (vec_capacity self.new.dirs ≡ vec_capacity self.old.dirs)) }
         ensures file { self.new.file ≡ self.old.file }
@@ -259,6 +264,7 @@ impl<E: Editor> Edit<E> {
             → RefusedFor f (unless (is_free token.now (open_of at)
             && is_in_dir up.now (open_of at)) fault.BadToken)) }
         ensures own { IfErr result (IfOwn (λ f. ⊥)) }
+        ensures kept { OnErr result (self.new.dirs.items ≡ self.old.dirs.items) }
         ensures free { OnOk result (is_free token.now (dirs_named E.dir_path self.old.dirs.items) ≡ true) }
         ensures room { OnOk result (vec_len self.new.dirs + 2 ≤ vec_capacity self.new.dirs) }
         ensures file { self.new.file ≡ self.old.file }
@@ -281,6 +287,7 @@ impl<E: Editor> Edit<E> {
         ensures moved { OnOk result (Performs E.dir_path E.file_path E.shows self.old self.new (command.DeleteEntry path base up)) }
         ensures refused { IfErr result (RefusedAs E.dir_path E.file_path self.old (command.DeleteEntry path base up)) }
         ensures own { IfErr result (IfOwn (MetAs E.dir_path E.file_path E.shows E.began E.refuses self.old (command.DeleteEntry path base up))) }
+        ensures still { IfErr result (LeavesOpen E.dir_path E.file_path self.old self.new (command.DeleteEntry path base up)) }
         ensures began { E.began self.new.editor ≡ E.began self.old.editor }
     {
         let mut dir = self.take_innermost(up.as_slice())?;
@@ -300,6 +307,7 @@ impl<E: Editor> Edit<E> {
         ensures moved { OnOk result (Performs E.dir_path E.file_path E.shows self.old self.new (command.AddDir path up token from)) }
         ensures refused { IfErr result (RefusedAs E.dir_path E.file_path self.old (command.AddDir path up token from)) }
         ensures own { IfErr result (IfOwn (MetAs E.dir_path E.file_path E.shows E.began E.refuses self.old (command.AddDir path up token from))) }
+        ensures still { IfErr result (LeavesOpen E.dir_path E.file_path self.old self.new (command.AddDir path up token from)) }
         ensures began { E.began self.new.editor ≡ E.began self.old.editor }
     {
         let mut dir = self.take_parent(up.as_slice(), token.as_slice())?;
@@ -320,6 +328,7 @@ impl<E: Editor> Edit<E> {
         ensures moved { OnOk result (Performs E.dir_path E.file_path E.shows self.old self.new (command.OpenDir path up token base)) }
         ensures refused { IfErr result (RefusedAs E.dir_path E.file_path self.old (command.OpenDir path up token base)) }
         ensures own { IfErr result (IfOwn (MetAs E.dir_path E.file_path E.shows E.began E.refuses self.old (command.OpenDir path up token base))) }
+        ensures still { IfErr result (LeavesOpen E.dir_path E.file_path self.old self.new (command.OpenDir path up token base)) }
         ensures began { E.began self.new.editor ≡ E.began self.old.editor }
     {
         let mut dir = self.take_parent(up.as_slice(), token.as_slice())?;
@@ -355,6 +364,7 @@ impl<E: Editor> Edit<E> {
         ensures moved { OnOk result (Performs E.dir_path E.file_path E.shows self.old self.new (command.DirProp token name value)) }
         ensures refused { IfErr result (RefusedAs E.dir_path E.file_path self.old (command.DirProp token name value)) }
         ensures own { IfErr result (IfOwn (MetAs E.dir_path E.file_path E.shows E.began E.refuses self.old (command.DirProp token name value))) }
+        ensures still { IfErr result (LeavesOpen E.dir_path E.file_path self.old self.new (command.DirProp token name value)) }
         ensures began { E.began self.new.editor ≡ E.began self.old.editor }
     {
         let at = self.find(token.as_slice())?;
@@ -368,6 +378,7 @@ impl<E: Editor> Edit<E> {
         ensures moved { OnOk result (Performs E.dir_path E.file_path E.shows self.old self.new (command.CloseDir token)) }
         ensures refused { IfErr result (RefusedAs E.dir_path E.file_path self.old (command.CloseDir token)) }
         ensures own { IfErr result (IfOwn (MetAs E.dir_path E.file_path E.shows E.began E.refuses self.old (command.CloseDir token))) }
+        ensures still { IfErr result (LeavesOpen E.dir_path E.file_path self.old self.new (command.CloseDir token)) }
         ensures began { E.began self.new.editor ≡ E.began self.old.editor }
     {
         let OpenDir { token: _, baton } = self.take_innermost(token.as_slice())?;
@@ -385,6 +396,7 @@ impl<E: Editor> Edit<E> {
         ensures moved { OnOk result (Performs E.dir_path E.file_path E.shows self.old self.new (command.AddFile path up token from)) }
         ensures refused { IfErr result (RefusedAs E.dir_path E.file_path self.old (command.AddFile path up token from)) }
         ensures own { IfErr result (IfOwn (MetAs E.dir_path E.file_path E.shows E.began E.refuses self.old (command.AddFile path up token from))) }
+        ensures still { IfErr result (LeavesOpen E.dir_path E.file_path self.old self.new (command.AddFile path up token from)) }
         ensures began { E.began self.new.editor ≡ E.began self.old.editor }
     {
         let mut dir = self.take_parent(up.as_slice(), token.as_slice())?;
@@ -405,6 +417,7 @@ impl<E: Editor> Edit<E> {
         ensures moved { OnOk result (Performs E.dir_path E.file_path E.shows self.old self.new (command.OpenFile path up token base)) }
         ensures refused { IfErr result (RefusedAs E.dir_path E.file_path self.old (command.OpenFile path up token base)) }
         ensures own { IfErr result (IfOwn (MetAs E.dir_path E.file_path E.shows E.began E.refuses self.old (command.OpenFile path up token base))) }
+        ensures still { IfErr result (LeavesOpen E.dir_path E.file_path self.old self.new (command.OpenFile path up token base)) }
         ensures began { E.began self.new.editor ≡ E.began self.old.editor }
     {
         let mut dir = self.take_parent(up.as_slice(), token.as_slice())?;
@@ -443,6 +456,7 @@ impl<E: Editor> Edit<E> {
         ensures moved { OnOk result (Performs E.dir_path E.file_path E.shows self.old self.new (command.FileProp token name value)) }
         ensures refused { IfErr result (RefusedAs E.dir_path E.file_path self.old (command.FileProp token name value)) }
         ensures own { IfErr result (IfOwn (MetAs E.dir_path E.file_path E.shows E.began E.refuses self.old (command.FileProp token name value))) }
+        ensures still { IfErr result (LeavesOpen E.dir_path E.file_path self.old self.new (command.FileProp token name value)) }
         ensures began { E.began self.new.editor ≡ E.began self.old.editor }
     {
         let Some(file) = &mut self.file else {
@@ -456,6 +470,7 @@ impl<E: Editor> Edit<E> {
         ensures moved { OnOk result (Performs E.dir_path E.file_path E.shows self.old self.new (command.TextStart token)) }
         ensures refused { IfErr result (RefusedAs E.dir_path E.file_path self.old (command.TextStart token)) }
         ensures own { IfErr result (IfOwn (MetAs E.dir_path E.file_path E.shows E.began E.refuses self.old (command.TextStart token))) }
+        ensures still { IfErr result (LeavesOpen E.dir_path E.file_path self.old self.new (command.TextStart token)) }
         ensures began { E.began self.new.editor ≡ E.began self.old.editor }
     {
         let Some(file) = &mut self.file else {
@@ -469,6 +484,7 @@ impl<E: Editor> Edit<E> {
         ensures moved { OnOk result (Performs E.dir_path E.file_path E.shows self.old self.new (command.Chunk token bytes)) }
         ensures refused { IfErr result (RefusedAs E.dir_path E.file_path self.old (command.Chunk token bytes)) }
         ensures own { IfErr result (IfOwn (MetAs E.dir_path E.file_path E.shows E.began E.refuses self.old (command.Chunk token bytes))) }
+        ensures still { IfErr result (LeavesOpen E.dir_path E.file_path self.old self.new (command.Chunk token bytes)) }
         ensures began { E.began self.new.editor ≡ E.began self.old.editor }
     {
         let Some(file) = &mut self.file else {
@@ -482,6 +498,7 @@ impl<E: Editor> Edit<E> {
         ensures moved { OnOk result (Performs E.dir_path E.file_path E.shows self.old self.new (command.TextEnd token)) }
         ensures refused { IfErr result (RefusedAs E.dir_path E.file_path self.old (command.TextEnd token)) }
         ensures own { IfErr result (IfOwn (MetAs E.dir_path E.file_path E.shows E.began E.refuses self.old (command.TextEnd token))) }
+        ensures still { IfErr result (LeavesOpen E.dir_path E.file_path self.old self.new (command.TextEnd token)) }
         ensures began { E.began self.new.editor ≡ E.began self.old.editor }
     {
         let Some(file) = &mut self.file else {
@@ -495,6 +512,7 @@ impl<E: Editor> Edit<E> {
         ensures moved { OnOk result (Performs E.dir_path E.file_path E.shows self.old self.new (command.CloseFile token sum)) }
         ensures refused { IfErr result (RefusedAs E.dir_path E.file_path self.old (command.CloseFile token sum)) }
         ensures own { IfErr result (IfOwn (MetAs E.dir_path E.file_path E.shows E.began E.refuses self.old (command.CloseFile token sum))) }
+        ensures still { IfErr result (LeavesOpen E.dir_path E.file_path self.old self.new (command.CloseFile token sum)) }
         ensures began { E.began self.new.editor ≡ E.began self.old.editor }
     {
         let OpenFile {
@@ -518,6 +536,7 @@ impl<E: Editor> Edit<E> {
             → StandsAt E.dir_path E.file_path self.old at
             → RefusedFor f (in_file token.now (open_of at) (at_close sum))) }
         ensures own { IfErr result (IfOwn (λ f. ⊥)) }
+        ensures kept { OnErr result (self.new.file ≡ self.old.file) }
         ensures none { OnOk result (self.new.file ≡ None) }
         ensures dirs { self.new.dirs ≡ self.old.dirs }
         ensures editor { self.new.editor ≡ self.old.editor }
@@ -548,6 +567,7 @@ impl<E: Editor> Edit<E> {
         ensures moved { OnOk result (Performs E.dir_path E.file_path E.shows self.old self.new command.CloseEdit) }
         ensures refused { IfErr result (RefusedAs E.dir_path E.file_path self.old command.CloseEdit) }
         ensures own { IfErr result (IfOwn (MetAs E.dir_path E.file_path E.shows E.began E.refuses self.old command.CloseEdit)) }
+        ensures still { IfErr result (LeavesOpen E.dir_path E.file_path self.old self.new command.CloseEdit) }
         ensures began { E.began self.new.editor ≡ E.began self.old.editor }
     {
         if self.is_announced() {
@@ -586,6 +606,7 @@ impl<E: Editor> Edit<E> {
         ensures own { IfErr result (IfOwn (λ f. (at : At)
             → StandsAt E.dir_path E.file_path self at
             → Meets E.shows E.began E.refuses self.editor at command.Finish f)) }
+        ensures gives_up { OnErr result (GivesUp E.lets_go E.given_up (all_open E.dir_path E.file_path self)) }
     {
         if !self.is_closed() {
             self.abort();
@@ -624,36 +645,61 @@ impl<E: Editor> Edit<E> {
     }
 
     /// Discards what is open, and aborts the edit.
-    pub fn abort(self) {
+    pub fn abort(self)
+        ensures { GivesUp E.lets_go E.given_up (all_open E.dir_path E.file_path self) }
+    {
         self.into_editor().abort_edit();
     }
 
-    // The editor, once what is open is discarded.
-    fn into_editor(self) -> E {
+    // The editor, once what is open is discarded, the innermost first. It was shown no more.
+    fn into_editor(self) -> E
+        ensures shown { StaysShown E.shows self.editor result }
+        ensures let_go { LetsGo E.lets_go self.editor result (all_open E.dir_path E.file_path self) }
+    {
         let Edit {
             editor,
             stage: _,
             dirs,
             file,
         } = self;
-        let mut editor = editor;
-        let mut dirs = dirs;
-        if let Some(
-            OpenFile {
-                token: _,
-                baton,
-                given: _,
-            },
-        ) = file
-        {
-            editor.discard_file(baton);
+        match file {
+            None => discard_dirs(editor, dirs),
+            Some(
+                OpenFile {
+                    token: _,
+                    baton,
+                    given: _,
+                },
+            ) => {
+                let mut left = editor;
+                left.discard_file(baton);
+                discard_dirs(left, dirs)
+            }
         }
-        while let Some(OpenDir { token: _, baton }) = dirs.pop() {
-            editor.discard_dir(baton);
-        }
-        dirs.destroy_empty();
-        editor
     }
+}
+
+// The editor, once these directories are discarded, the last one first.
+fn discard_dirs<E: Editor>(editor: E, dirs: Vec<OpenDir<E::Dir>>) -> E
+    ensures shown { StaysShown E.shows editor result }
+    ensures let_go { LetsGo E.lets_go editor result (dir_paths E.dir_path dirs.items) }
+{
+    let mut left = editor;
+    let mut open = dirs;
+    while let Some(dir) = open.pop() {
+        discard_dir(&mut left, dir);
+    }
+    open.destroy_empty();
+    left
+}
+
+// Discards one of them.
+fn discard_dir<E: Editor>(editor: &mut E, dir: OpenDir<E::Dir>)
+    ensures shown { StaysShown E.shows editor.old editor.new }
+    ensures let_go { LetsGo E.lets_go editor.old editor.new (E.dir_path dir.baton ∷ []) }
+{
+    let OpenDir { token: _, baton } = dir;
+    editor.discard_dir(baton);
 }
 
 // The bytes of a value, where there is one.
@@ -692,6 +738,7 @@ fn give_prop<E: Editor>(
     ensures own { IfErr result
         (IfOwn (RefusesOne E.shows E.began E.refuses editor.old
         (call.FileProp (E.file_path file.old.baton) name (option_map (λ s. s.items) value) ∷ []))) }
+    ensures path { E.file_path file.new.baton ≡ E.file_path file.old.baton }
     ensures began { E.began editor.new ≡ E.began editor.old }
 {
     if !is_same(file.token.as_slice(), token.as_slice()) {
@@ -713,6 +760,7 @@ fn begin_text<E: Editor>(
         → RefusedFor f (for_token token.items file.old.token.items (at_start held))) }
     ensures own { IfErr result
         (IfOwn (RefusesOne E.shows E.began E.refuses editor.old (call.TextStart (E.file_path file.old.baton) ∷ []))) }
+    ensures path { E.file_path file.new.baton ≡ E.file_path file.old.baton }
     ensures began { E.began editor.new ≡ E.began editor.old }
 {
     if !is_same(file.token.as_slice(), token.as_slice()) {
@@ -741,6 +789,7 @@ fn give_bytes<E: Editor>(
         → (pieces : List (List ℕ)) × ReadFirst held bytes.items pieces
         × RefusesOne E.shows E.began E.refuses editor.old
         (map (call.TextPiece (E.file_path file.old.baton)) pieces) f)) }
+    ensures path { E.file_path file.new.baton ≡ E.file_path file.old.baton }
     ensures began { E.began editor.new ≡ E.began editor.old }
 {
     if !is_same(file.token.as_slice(), token.as_slice()) {
@@ -765,6 +814,7 @@ fn close_text<E: Editor>(
         → RefusedFor f (for_token token.items file.old.token.items (at_end held))) }
     ensures own { IfErr result
         (IfOwn (RefusesOne E.shows E.began E.refuses editor.old (call.TextEnd (E.file_path file.old.baton) ∷ []))) }
+    ensures path { E.file_path file.new.baton ≡ E.file_path file.old.baton }
     ensures began { E.began editor.new ≡ E.began editor.old }
 {
     if !is_same(file.token.as_slice(), token.as_slice()) {

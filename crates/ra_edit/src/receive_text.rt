@@ -25,7 +25,7 @@ fn take_stretch<E: Editor>(
         × Adds E.shows editor.old editor.new (map (call.TextPiece (E.file_path file.old)) pieces)
         × (pieces ≡ with_piece bytes.now [])) }
     ensures sum { OnOk result ((text : List ℕ) → Holds sum.old text → Holds sum.new (text ++ bytes.now)) }
-    ensures file { OnOk result (E.file_path file.new ≡ E.file_path file.old) }
+    ensures file { E.file_path file.new ≡ E.file_path file.old }
     ensures refused { IfErr result
         (Refused E.shows E.began E.refuses editor.old (call.TextPiece (E.file_path file.old) bytes.now)) }
     ensures some { OnErr result (0 < length bytes.now) }
@@ -47,7 +47,7 @@ pub fn take_chunk<E: Editor>(
     sum: &mut Md5,
     bytes: &[u8],
 ) -> Result<(), CommandFault>
-    ensures file { OnOk result (E.file_path file.new ≡ E.file_path file.old) }
+    ensures file { E.file_path file.new ≡ E.file_path file.old }
     ensures taken { OnOk result ((pieces : List (List ℕ))
         × Adds E.shows editor.old editor.new (map (call.TextPiece (E.file_path file.old)) pieces)
         × ((text : List ℕ) → reading (Reads text reader.old) bytes.now

@@ -138,6 +138,11 @@ impl<W: Write + Drop> Editor for WireEditor<W> {
 
     ghost refuses = { λ held calls c e. e ≡ PeerFailed };
 
+    // It keeps neither what it is let go of nor that it is given up.
+    ghost lets_go = { λ e paths. Unit {0} };
+
+    ghost given_up = { λ e. Unit {0} };
+
     fn target(&mut self, rev: RevNo) -> Result<(), EditorFault> {
         let written = command::write_numbered(&mut self.out, Name::TargetRev, rev.get());
         sent(&mut self.out, written)

@@ -17,7 +17,7 @@ pub returns-in-Ok-receive-clause-received : goal.returns-in-Ok-receive-clause-re
 returns-in-Ok-receive-clause-received g c = received_set c.drive_is_received.ensures _ c.args.trees.now (sent_of c.args.trees.now c.requires.few c.trees_limits.ensures) _ _ _ _ (returns-in-Ok-receive-clause-edit g c)
 
 pub returns-in-Err-clause-stopped : goal.returns-in-Err-clause-stopped
-returns-in-Err-clause-stopped g c = refused_over has_shown trees_of c.in-Ok.editor c.args.trees.now _ _ _ _ _ c.in-Err.fault c.in-Ok.ensures.new c.in-Ok.ensures.over c.in-Err.ensures.refused
+returns-in-Err-clause-stopped g c = refused_over has_shown trees_of c.in-Ok.editor c.args.trees.now _ _ _ _ _ c.in-Err.fault c.in-Ok.ensures.new c.in-Ok.ensures.over c.in-Err.ensures.refused.stops.drive
 
 pub returns-in-Err-clause-refused : goal.returns-in-Err-clause-refused
 returns-in-Err-clause-refused g c = refused_set c.drive_is_not_refused.ensures c.args.trees.now (sent_of c.args.trees.now c.requires.few c.trees_limits.ensures) _ _ _ _ _ c.in-Err.fault (returns-in-Err-clause-stopped g c)

@@ -77,8 +77,8 @@ returns-in-Err-clause-halts g _ c =
     let one = shown_twice g.E.Editor.shows c.args.editor.now c.loop-path.editor c.enter.new.editor first here inside inv.6 (subst (λ z. Shown g.E.Editor.shows c.loop-path.editor c.enter.new.editor (left c.args.revision.now.trees.now c.args.revision.now.set.now c.loop-path.progress.next z) inside) inv.3 entered.1) in
     halts_behind g.E.Editor.shows g.E.Editor.began g.E.Editor.refuses c.args.revision.now.trees.now c.args.revision.now.set.now c.args.editor.now c.enter.new.editor first inside c.in-Err.fault one (c.in_ok-enter.ensures.began ∙ inv.5) c.in-Err.ensures.halts
 
-pub loop-path-preserved : goal.loop-path-preserved
-loop-path-preserved g _ c =
+pub loop-path-preserved-in_ok-close_dir-in-Ok : goal.loop-path-preserved-in_ok-close_dir-in-Ok
+loop-path-preserved-in_ok-close_dir-in-Ok g _ c =
     let inv = c.loop-path.invariant in
     let dp = g.E.Editor.dir_path c.loop-path.dir in
     let entered = subst (λ z. Entered g.E.Editor.shows g.E.Editor.dir_path c.loop-path.editor c.enter.new.editor (left c.args.revision.now.trees.now c.args.revision.now.set.now c.loop-path.progress.next dp) (left c.args.revision.now.trees.now c.args.revision.now.set.now c.enter.new.progress.next) dp c.in-Some.path z) c.in-Some-2.is c.in_ok-enter.ensures.shown in

@@ -1,6 +1,6 @@
 use Rattle.std.proofs.Common.{◌∙◌, refl, arith}
 use Rattle.std.proofs.lemmas.Result.{err_from_is_err_and}
-use Rattle.ra_edit.proofs.Drives.{goes_none, goes_more, comes, drive_refused, not_ended, spent_not}
+use Rattle.ra_edit.proofs.Drives.{goes_none, goes_more, comes, drive_stops, not_ended, spent_not}
 use Rattle.ra_item.proofs.Streaming.{fails_since}
 use Rattle.ra_edit.proofs.receive.take_commands.Goals as goal
 
@@ -24,4 +24,4 @@ returns-then-branch-clause-comes g c =
 pub returns-in_err-take_command-clause-refused : goal.returns-in_err-take_command-clause-refused
 returns-in_err-take_command-clause-refused g c =
     let p = err_from_is_err_and c.from_residual.result c.from_residual.ensures.1 in
-    rw (p.1, p.2) (drive_refused _ _ _ _ _ _ _ _ _ _ _ _ _ _ _ _ c.loop.invariant.3 (not_ended _ _ _ _ _) c.loop.invariant.0 c.loop.invariant.1 (fails_since _ _ _ _ c.loop.invariant.2) c.in_err-take_command.ensures.refused)
+    rw (p.1, p.2) (drive_stops _ _ _ _ _ _ _ _ _ _ _ _ _ _ _ _ _ c.loop.invariant.3 (not_ended _ _ _ _ _) c.loop.invariant.0 c.loop.invariant.1 (fails_since _ _ _ _ c.loop.invariant.2) c.in_err-take_command.ensures.refused c.in_err-take_command.ensures.still)

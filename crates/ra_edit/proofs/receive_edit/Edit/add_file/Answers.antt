@@ -5,6 +5,7 @@ use Rattle.ra_edit.specs.declared.receive_edit.Given.TheVariants as given
 use Rattle.ra_edit.proofs.Steps.{file_opened, says_add_file}
 use Rattle.std.proofs.lemmas.Result.{err_from_is_err_and}
 use Rattle.ra_edit.proofs.OwnRefusals.{dir_met}
+use Rattle.ra_edit.proofs.LeftOpen.{same_open, put_back}
 use Rattle.ra_edit.proofs.receive_edit.Edit.add_file.Goals as goal
 
 pub returns-clause-moved : goal.returns-clause-moved
@@ -24,3 +25,14 @@ returns-in_err-baton-clause-own g c =
     let p = err_from_is_err_and c.from_residual-in_err-baton.result c.from_residual-in_err-baton.ensures.1 in
     let t = c.in_ok-dir.ensures in
     rw (p.1, p.2) (λ at h. dir_met _ _ _ _ _ _ _ _ _ _ _ _ at (λ q. call.AddFile q c.args.path c.args.from) _ _ _ t.taken.0 t.taken.2 t.editor (ap (λ x. call.AddFile (g.E.Editor.dir_path c.in_ok-dir.dir.baton) c.args.path x) c.as_ref.ensures.value) (λ q e. ap (λ r. call.AddFile r c.args.path c.args.from ∷ []) e) h c.in_err-baton.ensures.refused)
+
+pub returns-in_err-dir-clause-still : goal.returns-in_err-dir-clause-still
+returns-in_err-dir-clause-still g c =
+    let p = err_from_is_err_and c.from_residual.result c.from_residual.ensures.1 in
+    rw p.1 (same_open g.E.Editor.dir_path g.E.Editor.file_path _ _ _ _ c.in_err-dir.ensures.kept c.in_err-dir.ensures.file)
+
+pub returns-in_err-baton-clause-still : goal.returns-in_err-baton-clause-still
+returns-in_err-baton-clause-still g c =
+    let p = err_from_is_err_and c.from_residual-in_err-baton.result c.from_residual-in_err-baton.ensures.1 in
+    let t = c.in_ok-dir.ensures in
+    rw p.1 (put_back g.E.Editor.dir_path g.E.Editor.file_path _ _ _ _ _ _ _ t.taken.0 c.push_reserved.ensures.items c.in_err-baton.ensures.up t.file)

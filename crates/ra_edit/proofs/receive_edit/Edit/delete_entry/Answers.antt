@@ -4,6 +4,7 @@ use Rattle.ra_edit.specs.Edits.{Dir, named}
 use Rattle.ra_edit.proofs.Steps.{in_dir, says_delete}
 use Rattle.std.proofs.lemmas.Result.{err_from_is_err_and}
 use Rattle.ra_edit.proofs.OwnRefusals.{dir_met}
+use Rattle.ra_edit.proofs.LeftOpen.{same_open, put_back}
 use Rattle.ra_edit.proofs.receive_edit.Edit.delete_entry.Goals as goal
 
 pub returns-clause-moved : goal.returns-clause-moved
@@ -22,3 +23,14 @@ returns-in_err-done-clause-own g c =
     let p = err_from_is_err_and c.from_residual-in_err-done.result c.from_residual-in_err-done.ensures.1 in
     let t = c.in_ok-dir.ensures in
     rw (p.1, p.2) (λ at h. dir_met _ _ _ _ _ _ _ _ _ _ _ _ at (λ q. call.DeleteEntry q c.args.path c.args.base) _ _ _ t.taken.0 t.taken.2 t.editor refl (λ q e. ap (λ r. call.DeleteEntry r c.args.path c.args.base ∷ []) e) h c.in_err-done.ensures.refused)
+
+pub returns-in_err-dir-clause-still : goal.returns-in_err-dir-clause-still
+returns-in_err-dir-clause-still g c =
+    let p = err_from_is_err_and c.from_residual.result c.from_residual.ensures.1 in
+    rw p.1 (same_open g.E.Editor.dir_path g.E.Editor.file_path _ _ _ _ c.in_err-dir.ensures.kept c.in_err-dir.ensures.file)
+
+pub returns-in_err-done-clause-still : goal.returns-in_err-done-clause-still
+returns-in_err-done-clause-still g c =
+    let p = err_from_is_err_and c.from_residual-in_err-done.result c.from_residual-in_err-done.ensures.1 in
+    let t = c.in_ok-dir.ensures in
+    rw p.1 (put_back g.E.Editor.dir_path g.E.Editor.file_path _ _ _ _ _ _ _ t.taken.0 c.push_reserved.ensures.items c.in_err-done.ensures.up t.file)

@@ -1,6 +1,7 @@
 use Rattle.std.proofs.lemmas.Result.{err_from_is_err_and}
 use Rattle.ra_edit.proofs.Refusing.{no_file, in_open}
 use Rattle.ra_edit.proofs.Steps.{file_moved}
+use Rattle.ra_edit.proofs.LeftOpen.{file_stays}
 use Rattle.ra_edit.proofs.receive_edit.Edit.file_prop.Goals as goal
 
 pub returns-clause-moved : goal.returns-clause-moved
@@ -14,3 +15,8 @@ pub returns-in_err-give_prop-clause-refused : goal.returns-in_err-give_prop-clau
 returns-in_err-give_prop-clause-refused g c =
     let p = err_from_is_err_and c.from_residual.result c.from_residual.ensures.1 in
     rw (p.1, p.2) (λ at h. in_open _ _ _ _ _ _ at _ _ _ c.in-Some.is (λ held k. c.in_err-give_prop.ensures.refused) h)
+
+pub returns-in_err-give_prop-clause-still : goal.returns-in_err-give_prop-clause-still
+returns-in_err-give_prop-clause-still g c =
+    let p = err_from_is_err_and c.from_residual.result c.from_residual.ensures.1 in
+    rw p.1 (file_stays g.E.Editor.dir_path g.E.Editor.file_path c.args.self.now.dirs.items c.in-Some.file c.give_prop.new.file c.args.self.now.file c.in-Some.is c.in_err-give_prop.ensures.path)
