@@ -1,5 +1,5 @@
 -- What is taken where it is to come.
-use Rattle.std.proofs.Common.{◌≡◌, ◌≤◌, ℕ, true, false, List, [], ◌∷◌, ◌++◌, Option, Some, Result, Ok, Err, inl, inr, refl, sym, ap, subst, ◌∙◌, append_assoc, length, length-append, arith}
+use Rattle.std.proofs.Common.{◌≡◌, ◌≤◌, ℕ, Bool, true, false, None, List, [], ◌∷◌, ◌++◌, Option, Some, Result, Ok, Err, inl, inr, refl, sym, ap, subst, ◌∙◌, append_assoc, length, length-append, arith}
 use Rattle.std.proofs.lemmas.Fmt.{length-decimal-le}
 use Rattle.std.proofs.lemmas.List.{append-nil}
 use Rattle.std.proofs.lemmas.Bool.Decides.{nat_tests}
@@ -36,8 +36,8 @@ use Rattle.ra_wire.specs.Replies.{list, authorised, done, number, proplist, revp
 use Rattle.ra_client.specs.Exchanges.{Asks, AsksLatest, AsksProps, AsksRevision, TakesAnswer, TakesSet, TakesRevision}
 use Rattle.ra_client.specs.Faults.{number_of}
 use Rattle.ra_client.specs.Ports.{FailsMeanwhile}
-use Rattle.ra_client.specs.Said.{Reply, Told, same, authorised_said, done_said, number_said, proplist_said, revprops_said}
-use Rattle.ra_client.specs.Steps.{Follows, Stopped, Went, Gives, TakesItem, OfItem, OfEnd, OfStream, TakesEdit, IsUnwritten, Goes, counts_of, IsLater}
+use Rattle.ra_client.specs.Said.{Reply, ToldWithin, never, same, authorised_said, done_said, number_said, proplist_said, proplist_past, revprops_said, revprops_past}
+use Rattle.ra_client.specs.Steps.{Follows, Stopped, Went, Gives, TakesItem, TakesWithin, OfItem, OfEnd, OfStream, TakesEdit, IsUnwritten, Goes, counts_of, IsLater}
 use Rattle.ra_client.specs.Telling.{IsToCome, IsExcused, TakesTold, IsRevisionMade, number_told, proplist_told, revision_told}
 use Rattle.ra_client.specs.declared.fault.ClientFault.{ClientFault}
 use Rattle.ra_client.specs.declared.fault.ClientFault.TheVariants as fault
@@ -79,25 +79,29 @@ match_more P Q before after (Err f) k l h = excused_more before after f l h
 
 -- ---- one item
 
-says : {R A T : Type 0} {g : InputGhosts R} (view : A → T) (o : Option (Reply T)) (v : T) (old new : ItemStream R g) (r : Result A ClientFault) (more : List ℕ) → o ≡ Some (Some v) → Told view o r → IsBefore more (g.remaining (reader_of new)) (ahead new) → Goes old new r → MatchResult r (λ a. (view a ≡ v) × IsToCome more new) (IsExcused (Fails (counts_of old new)))
-says view o v old new (Ok a) more e t b goes = (let d : view a ≡ v = cc in d, (b, goes.goes_on))
-says view o v old new (Err fault.Refused) more e t b goes = cc
-says view o v old new (Err fault.BadAnswer) more e t b goes = cc
-says view o v old new (Err (fault.Edit k)) more e t b goes = inl (ap edit_number t)
+says : {R A T : Type 0} {g : InputGhosts R} (past : Bool) (view : A → T) (o : Option (Reply T)) (v : T) (old new : ItemStream R g) (r : Result A ClientFault) (more : List ℕ) → o ≡ Some (Some v) → ToldWithin past view o r → IsBefore more (g.remaining (reader_of new)) (ahead new) → Goes old new r → MatchResult r (λ a. (view a ≡ v) × IsToCome more new) (IsExcused (Fails (counts_of old new)))
+says past view o v old new (Ok a) more e t b goes = (let d : view a ≡ v = cc in d, (b, goes.goes_on))
+says past view o v old new (Err fault.Refused) more e t b goes = cc
+says past view o v old new (Err fault.BadAnswer) more e t b goes = let n : o ≡ None = t.0 in cc
+says past view o v old new (Err (fault.Edit k)) more e (inl t) b goes = inl (ap edit_number t)
+says past view o v old new (Err (fault.Edit k)) more e (inr t) b goes = let n : o ≡ None = t.1 in cc
 
-pub carry_item : {R A T : Type 0} {g : InputGhosts R} → WrittenIsTaken → WrittenComes → (view : A → T) (what : Item → Option (Reply T)) (x : Item) (v : T) → Within x → what x ≡ Some (Some v) → Carries {g = g} (spell x) (λ a. view a ≡ v) (TakesItem view what)
-carry_item {R} {A} {T} {g} taken comes view what x v fits e old new r more there step = item_carried r step
+pub carry_within : {R A T : Type 0} {g : InputGhosts R} → WrittenIsTaken → WrittenComes → (view : A → T) (what : Item → Option (Reply T)) (past : Item → Bool) (x : Item) (v : T) → Within x → what x ≡ Some (Some v) → Carries {g = g} (spell x) (λ a. view a ≡ v) (TakesWithin view what past)
+carry_within {R} {A} {T} {g} taken comes view what past x v fits e old new r more there step = item_carried r step
   where
     at : IsBefore (spell_all (row (x ∷ [])) ++ more) (g.remaining (reader_of old)) (ahead old)
     at = subst (λ z. IsBefore (z ++ more) (g.remaining (reader_of old)) (ahead old)) (sym (append-nil (spell x))) there.0
 
-    item_carried : (r : Result A ClientFault) → TakesItem view what old new r → MatchResult r (λ a. (view a ≡ v) × IsToCome more new) (IsExcused (Fails (counts_of old new)))
+    item_carried : (r : Result A ClientFault) → TakesWithin view what past old new r → MatchResult r (λ a. (view a ≡ v) × IsToCome more new) (IsExcused (Fails (counts_of old new)))
     item_carried r (OfItem y t told, goes) =
         let h = taken (x ∷ []) (y ∷ []) more (g.remaining (reader_of old)) (g.remaining (reader_of new)) (ahead old) (ahead new) (fits, tt) refl at t in
         let d : y ≡ x = cc in
-        says view (what y) v old new r more (ap what d ∙ e) told h.1 goes
+        says (past y) view (what y) v old new r more (ap what d ∙ e) told h.1 goes
     item_carried r (OfEnd t f, goes) = absurd ((comes x more (g.remaining (reader_of old)) (g.remaining (reader_of new)) (ahead old) fits at).0 true t)
     item_carried r (OfStream k stops f, goes) = subst (λ z. MatchResult z (λ a. (view a ≡ v) × IsToCome more new) (IsExcused (Fails (counts_of old new)))) (sym f) (excused (λ _. ⊥) (counts_of old new) (edits.of_next k) (λ n h. absurd h) ((comes x more (g.remaining (reader_of old)) (g.remaining (reader_of new)) (ahead old) fits at).1 (is_spent old) (counts_of old new) k there.1 stops))
+
+pub carry_item : {R A T : Type 0} {g : InputGhosts R} → WrittenIsTaken → WrittenComes → (view : A → T) (what : Item → Option (Reply T)) (x : Item) (v : T) → Within x → what x ≡ Some (Some v) → Carries {g = g} (spell x) (λ a. view a ≡ v) (TakesItem view what)
+carry_item taken comes view what = carry_within taken comes view what never
 
 -- ---- one behind another
 
@@ -125,8 +129,8 @@ carry_edit trees s may old new (Err fault.BadAnswer) more there h = absurd h.0
 
 -- ---- answers
 
-item_later : {R A T : Type 0} {g : InputGhosts R} (view : A → T) (what : Item → Option (Reply T)) (old new : ItemStream R g) (v : A) → TakesItem view what old new (Ok v) → IsLater old new
-item_later view what old new v h = h.1.later
+item_later : {R A T : Type 0} {g : InputGhosts R} (view : A → T) (what : Item → Option (Reply T)) (past : Item → Bool) (old new : ItemStream R g) (v : A) → TakesWithin view what past old new (Ok v) → IsLater old new
+item_later view what past old new v h = h.1.later
 
 edit_later : {R : Type 0} {g : InputGhosts R} (trees : List PathMap) (old new : ItemStream R g) (applied : Applied) → TakesEdit trees old new (Ok applied) → IsLater old new
 edit_later trees old new applied h = h.1.later
@@ -141,7 +145,7 @@ pub done_fits : Within done
 done_fits = record { fits = ((refl, omega arith), (tt, tt)); depth = omega arith; bytes = omega arith }
 
 carry_answer : {R A : Type 0} {g : InputGhosts R} → WrittenIsTaken → WrittenComes → (bytes : List ℕ) (Q : A → Type 0) (answer : ItemStream R g → ItemStream R g → Result A ClientFault → Type 0) → Carries {g = g} bytes Q answer → Carries {g = g} (spell authorised ++ bytes) Q (TakesAnswer answer)
-carry_answer {R} {A} {g} taken comes bytes Q answer f = carry_follows (spell authorised) bytes (λ u. u ≡ tt) Q (TakesItem same authorised_said) (λ _. answer) (item_later same authorised_said) (carry_item taken comes same authorised_said authorised tt authorised_fits refl) (λ _ _. f)
+carry_answer {R} {A} {g} taken comes bytes Q answer f = carry_follows (spell authorised) bytes (λ u. u ≡ tt) Q (TakesItem same authorised_said) (λ _. answer) (item_later same authorised_said never) (carry_item taken comes same authorised_said authorised tt authorised_fits refl) (λ _ _. f)
 
 -- ---- over an input and an output
 
@@ -172,7 +176,7 @@ pub latest_told : {R O : Type 0} {g : InputGhosts R} {h : OutputGhosts O} → Wr
 latest_told taken comes n l = asks_told LatestRev (TakesItem same number_said) (number_told n) (λ found. found ≡ n) (carry_answer taken comes (spell (number n)) (λ found. found ≡ n) (TakesItem same number_said) (carry_item taken comes same number_said (number n) n (number_fits n l) (number_says n l)))
 
 pub props_told : {R O : Type 0} {g : InputGhosts R} {h : OutputGhosts O} → WrittenIsTaken → WrittenComes → (k : ℕ) (m : PropMap) → IsProps m → (old new : ItemStream R g × Sink O h) (r : Result PropMap ClientFault) → AsksProps k old new r → TakesTold (proplist_told m) (λ found. found ≡ m) old new r
-props_told taken comes k m t = asks_told (RevProplist k) (TakesItem same proplist_said) (proplist_told m) (λ found. found ≡ m) (carry_answer taken comes (spell (proplist m)) (λ found. found ≡ m) (TakesItem same proplist_said) (carry_item taken comes same proplist_said (proplist m) m (proplist_fits m t) (ap (option_map Some) (props_again m t).of_proplist)))
+props_told taken comes k m t = asks_told (RevProplist k) (TakesWithin same proplist_said proplist_past) (proplist_told m) (λ found. found ≡ m) (carry_answer taken comes (spell (proplist m)) (λ found. found ≡ m) (TakesWithin same proplist_said proplist_past) (carry_within taken comes same proplist_said proplist_past (proplist m) m (proplist_fits m t) (ap (option_map Some) (props_again m t).of_proplist)))
 
 carry_set : {R : Type 0} {g : InputGhosts R} → WrittenIsTaken → WrittenComes → (trees : List PathMap) (s : List Change) (m props : PropMap) → MayBeSent trees s → props ≡ m → Carries {g = g} (edit_bytes (drive trees s) ++ spell done) (IsRevisionMade trees s m) (TakesSet trees props)
 carry_set {R} {g} taken comes trees s m props may e = carry_follows (edit_bytes (drive trees s)) (spell done) (λ applied. (q : Path) → effect trees applied.set q ≡ effect trees s q) (IsRevisionMade trees s m) (TakesEdit trees) (λ applied. Gives (TakesItem same done_said) (applied, props)) (edit_later trees) (carry_edit trees s may)
@@ -181,4 +185,4 @@ carry_set {R} {g} taken comes trees s m props may e = carry_follows (edit_bytes 
 
 pub revision_told_so : {R O : Type 0} {g : InputGhosts R} {h : OutputGhosts O} → WrittenIsTaken → WrittenComes → (k : ℕ) (trees : List PathMap) (s : List Change) (m : PropMap) → MayBeSent trees s → IsProps m → (old new : ItemStream R g × Sink O h) (r : Result (Applied × PropMap) ClientFault) → AsksRevision k trees old new r → TakesTold (revision_told trees s m) (IsRevisionMade trees s m) old new r
 revision_told_so taken comes k trees s m may t = asks_told (ReplayRange k k) (TakesRevision trees) (revision_told trees s m) (IsRevisionMade trees s m) (carry_answer taken comes (spell (revprops m) ++ (edit_bytes (drive trees s) ++ spell done)) (IsRevisionMade trees s m) (TakesRevision trees)
-    (carry_follows (spell (revprops m)) (edit_bytes (drive trees s) ++ spell done) (λ props. props ≡ m) (IsRevisionMade trees s m) (TakesItem same revprops_said) (TakesSet trees) (item_later same revprops_said) (carry_item taken comes same revprops_said (revprops m) m (revprops_fit m t) (ap (option_map Some) (props_again m t).of_revprops)) (λ props e. carry_set taken comes trees s m props may e)))
+    (carry_follows (spell (revprops m)) (edit_bytes (drive trees s) ++ spell done) (λ props. props ≡ m) (IsRevisionMade trees s m) (TakesWithin same revprops_said revprops_past) (TakesSet trees) (item_later same revprops_said revprops_past) (carry_within taken comes same revprops_said revprops_past (revprops m) m (revprops_fit m t) (ap (option_map Some) (props_again m t).of_revprops)) (λ props e. carry_set taken comes trees s m props may e)))

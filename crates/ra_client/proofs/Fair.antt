@@ -19,8 +19,8 @@ use Rattle.ra_client.specs.Faults.{of_next}
 use Rattle.ra_wire.specs.Commands.{Command, LatestRev, RevProplist, ReplayRange}
 use Rattle.ra_wire.specs.Requests.{hello, anonymous, command_item}
 use Rattle.ra_client.specs.Exchanges.{Asks, AsksLatest, AsksProps, AsksRevision, TakesRevision, LogsIn, Opens}
-use Rattle.ra_client.specs.Said.{Reply, Repository, same, authorised_said, done_said, number_said, proplist_said, revprops_said, greeting_said, asks_said, welcome_said}
-use Rattle.ra_client.specs.Steps.{Follows, Stopped, Went, Gives, IsIdle, OnInput, OnOutput, TakesItem, OfItem, OfEnd, OfStream, TakesEdit, Sends, IsUnwritten, counts_of, IsLater}
+use Rattle.ra_client.specs.Said.{Reply, Repository, never, same, authorised_said, done_said, number_said, proplist_said, proplist_past, revprops_said, revprops_past, greeting_said, asks_said, welcome_said}
+use Rattle.ra_client.specs.Steps.{Follows, Stopped, Went, Gives, IsIdle, OnInput, OnOutput, TakesItem, TakesWithin, OfItem, OfEnd, OfStream, TakesEdit, Sends, IsUnwritten, counts_of, IsLater}
 use Rattle.ra_client.specs.Ports.{FailsMeanwhile, TellsPeer}
 use Rattle.ra_client.specs.declared.fault.ClientFault.{ClientFault}
 use Rattle.ra_client.specs.declared.fault.ClientFault.TheVariants as fault
@@ -83,18 +83,22 @@ next_peer (next.Items item.BadItem) h = cc
 next_peer (next.Items item.TooDeep) h = cc
 next_peer (next.Items item.OutOfMemory) h = cc
 
-item_peer : {R A T : Type 0} {g : InputGhosts R} (view : A → T) (what : Item → Option (Reply T)) (old new : ItemStream R g) (f : ClientFault) → TakesItem view what old new (Err f) → f ≡ fault.Edit edit.PeerFailed → FailsIn old new
-item_peer view what old new (fault.Edit k) (OfItem x t is, l) told = cc
-item_peer view what old new fault.Refused (OfItem x t is, l) told = cc
-item_peer view what old new fault.BadAnswer (OfItem x t is, l) told = cc
-item_peer view what old new f (OfEnd t e, l) told = cc
-item_peer {R} {A} {T} {g} view what old new f (OfStream k stops e, l) told =
+item_peer : {R A T : Type 0} {g : InputGhosts R} (view : A → T) (what : Item → Option (Reply T)) (past : Item → Bool) (old new : ItemStream R g) (f : ClientFault) → TakesWithin view what past old new (Err f) → f ≡ fault.Edit edit.PeerFailed → FailsIn old new
+item_peer view what past old new (fault.Edit k) (OfItem x t (inl is), l) told = cc
+item_peer view what past old new (fault.Edit k) (OfItem x t (inr is), l) told = let long : k ≡ edit.TooLong = is.0 in cc
+item_peer view what past old new fault.Refused (OfItem x t is, l) told = cc
+item_peer view what past old new fault.BadAnswer (OfItem x t is, l) told = cc
+item_peer view what past old new f (OfEnd t e, l) told = cc
+item_peer {R} {A} {T} {g} view what past old new f (OfStream k stops e, l) told =
     let d : of_next k ≡ fault.Edit edit.PeerFailed = cc in
     subst (λ z. Stops [] (g.remaining (reader_of old)) (g.remaining (reader_of new)) (ahead old) (is_spent old) (counts_of old new) z) (next_peer k d) stops
 
+within_fair : {R A T : Type 0} {g : InputGhosts R} (view : A → T) (what : Item → Option (Reply T)) (past : Item → Bool) → AreFair {S = ItemStream R g} LaterIn FailsIn (TakesWithin view what past)
+within_fair view what past old new (Ok v) h = record { later = h.1.later; peer = tt }
+within_fair view what past old new (Err f) h = record { later = tt; peer = item_peer view what past old new f h }
+
 item_fair : {R A T : Type 0} {g : InputGhosts R} (view : A → T) (what : Item → Option (Reply T)) → AreFair {S = ItemStream R g} LaterIn FailsIn (TakesItem view what)
-item_fair view what old new (Ok v) h = record { later = h.1.later; peer = tt }
-item_fair view what old new (Err f) h = record { later = tt; peer = item_peer view what old new f h }
+item_fair view what = within_fair view what never
 
 edit_fair : {R : Type 0} {g : InputGhosts R} (trees : List PathMap) → AreFair {S = ItemStream R g} LaterIn FailsIn (TakesEdit trees)
 edit_fair trees old new (Ok applied) h = record { later = h.1.later; peer = tt }
@@ -145,10 +149,10 @@ pub latest_tells : {R O : Type 0} {g : InputGhosts R} {h : OutputGhosts O} (old 
 latest_tells old new r k = (asks_fair LatestRev _ (item_fair same number_said) old new r k).peer
 
 pub props_tells : {R O : Type 0} {g : InputGhosts R} {h : OutputGhosts O} (n : ℕ) (old new : ItemStream R g × Sink O h) (r : Result PropMap ClientFault) → AsksProps n old new r → TellsPeer old new r
-props_tells n old new r k = (asks_fair (RevProplist n) _ (item_fair same proplist_said) old new r k).peer
+props_tells n old new r k = (asks_fair (RevProplist n) _ (within_fair same proplist_said proplist_past) old new r k).peer
 
 revision_fair : {R : Type 0} {g : InputGhosts R} (trees : List PathMap) → AreFair {S = ItemStream R g} LaterIn FailsIn (TakesRevision trees)
-revision_fair trees = follows_fair LaterIn FailsIn _ _ joins_in (item_fair same revprops_said) (λ props. follows_fair LaterIn FailsIn _ _ joins_in (edit_fair trees) (λ applied. gives_fair LaterIn FailsIn _ (applied, props) (item_fair same done_said)))
+revision_fair trees = follows_fair LaterIn FailsIn _ _ joins_in (within_fair same revprops_said revprops_past) (λ props. follows_fair LaterIn FailsIn _ _ joins_in (edit_fair trees) (λ applied. gives_fair LaterIn FailsIn _ (applied, props) (item_fair same done_said)))
 
 pub revision_tells : {R O : Type 0} {g : InputGhosts R} {h : OutputGhosts O} (n : ℕ) (trees : List PathMap) (old new : ItemStream R g × Sink O h) (r : Result (Applied × PropMap) ClientFault) → AsksRevision n trees old new r → TellsPeer old new r
 revision_tells n trees old new r k = (asks_fair (ReplayRange n n) _ (revision_fair trees) old new r k).peer

@@ -10,8 +10,8 @@ use Rattle.ra_item.specs.Items.{spell}
 use Rattle.ra_item.specs.declared.stream.ItemStream.{ItemStream}
 use Rattle.ra_wire.specs.Commands.{Command, LatestRev, RevProplist, ReplayRange}
 use Rattle.ra_wire.specs.Requests.{hello, anonymous, command_item}
-use Rattle.ra_client.specs.Said.{Repository, authorised_said, done_said, number_said, proplist_said, revprops_said, greeting_said, asks_said, welcome_said, same}
-use Rattle.ra_client.specs.Steps.{Follows, Gives, IsIdle, OnInput, OnOutput, TakesItem, TakesEdit, Sends}
+use Rattle.ra_client.specs.Said.{Repository, authorised_said, done_said, number_said, proplist_said, proplist_past, revprops_said, revprops_past, greeting_said, asks_said, welcome_said, same}
+use Rattle.ra_client.specs.Steps.{Follows, Gives, IsIdle, OnInput, OnOutput, TakesItem, TakesEdit, TakesWithin, Sends}
 use Rattle.ra_client.specs.declared.fault.ClientFault.{ClientFault}
 
 -- ---- commands and their answers
@@ -33,14 +33,14 @@ AsksLatest = Asks LatestRev (TakesItem same number_said)
 
 -- the properties of a revision
 abbrev pub AsksProps : {R O : Type 0} {g : InputGhosts R} {h : OutputGhosts O} → ℕ → ItemStream R g × Sink O h → ItemStream R g × Sink O h → Result PropMap ClientFault → Type 0
-AsksProps n = Asks (RevProplist n) (TakesItem same proplist_said)
+AsksProps n = Asks (RevProplist n) (TakesWithin same proplist_said proplist_past)
 
 -- a revision: its edit over the trees before it, and that this was all, behind its properties
 abbrev pub TakesSet : {R : Type 0} {g : InputGhosts R} → List PathMap → PropMap → ItemStream R g → ItemStream R g → Result (Applied × PropMap) ClientFault → Type 0
 TakesSet trees props = Follows (TakesEdit trees) (λ applied. Gives (TakesItem same done_said) (applied, props))
 
 abbrev pub TakesRevision : {R : Type 0} {g : InputGhosts R} → List PathMap → ItemStream R g → ItemStream R g → Result (Applied × PropMap) ClientFault → Type 0
-TakesRevision trees = Follows (TakesItem same revprops_said) (TakesSet trees)
+TakesRevision trees = Follows (TakesWithin same revprops_said revprops_past) (TakesSet trees)
 
 abbrev pub AsksRevision : {R O : Type 0} {g : InputGhosts R} {h : OutputGhosts O} → ℕ → List PathMap → ItemStream R g × Sink O h → ItemStream R g × Sink O h → Result (Applied × PropMap) ClientFault → Type 0
 AsksRevision n trees = Asks (ReplayRange n n) (TakesRevision trees)

@@ -9,6 +9,8 @@ use Rattle.ra_edit.specs.EditFaults.{edit_number}
 use Rattle.ra_edit.specs.EditFaults as edits
 use Rattle.ra_wire.specs.declared.fault.WireFault.{WireFault}
 use Rattle.ra_wire.specs.declared.fault.WireFault.TheVariants as wire
+use Rattle.ra_wire.specs.declared.props_fault.PropsFault.{PropsFault}
+use Rattle.ra_wire.specs.declared.props_fault.PropsFault.TheVariants as props
 use Rattle.ra_client.specs.declared.fault.ClientFault.{ClientFault}
 use Rattle.ra_client.specs.declared.fault.ClientFault.TheVariants as fault
 
@@ -34,6 +36,12 @@ of_next f = fault.Edit (edits.of_next f)
 abbrev pub of_wire : WireFault → ClientFault
 of_wire wire.OutOfMemory = fault.Edit edit.OutOfMemory
 of_wire f = fault.BadAnswer
+
+-- properties of an answer aren't taken
+abbrev pub of_props : PropsFault → ClientFault
+of_props props.TooLong = fault.Edit edit.TooLong
+of_props props.BadShape = fault.BadAnswer
+of_props props.OutOfMemory = fault.Edit edit.OutOfMemory
 
 -- a command isn't sent
 abbrev pub of_sink : SinkFault → ClientFault

@@ -1,6 +1,6 @@
 -- What single items say to a client.
-use Rattle.std.specs.Prelude.{◌≡◌, ℕ, nat_lt, nat_le, Bool, true, false, ◌&&◌, List, [], ◌∷◌, Option, Some, None, Result, Ok, Err, codes, if◌then◌else◌}
-use Rattle.std.specs.Option.{option_map, option_and_then}
+use Rattle.std.specs.Prelude.{◌≡◌, ℕ, nat_lt, nat_le, Bool, true, false, ◌&&◌, ◌⊎◌, List, [], ◌∷◌, Option, Some, None, Result, Ok, Err, codes, if◌then◌else◌}
+use Rattle.std.specs.Option.{option_map, option_map_or, option_and_then}
 use Rattle.std.specs.List.{list_any}
 use Rattle.std.specs.Str.{bytes_eq}
 use Rattle.uuid.specs.Text.{parsed_hyphenated}
@@ -10,6 +10,7 @@ use Rattle.ra_edit.specs.declared.edit_fault.EditFault.TheVariants as edit
 use Rattle.ra_wire.specs.Params.{parts_in, word_in, list_in, number_in}
 use Rattle.ra_wire.specs.Openings.{Greeting, Welcome, greeting_in, mechanisms_in, welcome_in}
 use Rattle.ra_wire.specs.Answers.{props_in}
+use Rattle.ra_wire.specs.Limits.{props_past}
 use Rattle.ra_client.specs.declared.fault.ClientFault.{ClientFault}
 use Rattle.ra_client.specs.declared.fault.ClientFault.TheVariants as fault
 
@@ -69,12 +70,34 @@ proplist_in xs = option_map (λ m. m.0) (props_in xs)
 abbrev pub proplist_said : Item → Option (Reply PropMap)
 proplist_said = said proplist_in
 
+-- whether they stop at one past a limit
+abbrev pub past_in : Option (Reply Items) → Bool
+past_in None = false
+past_in (Some None) = false
+past_in (Some (Some xs)) = props_past xs
+
+abbrev pub proplist_past : Item → Bool
+proplist_past x = past_in (reply_said x)
+
 -- ( revprops ( .. ) ) or ( failure ( .. ) )
+abbrev pub failed_in : Items → Option (Reply PropMap)
+failed_in xs = option_map (λ l. None) (list_in xs)
+
 abbrev pub revprops_by : List ℕ → Items → Option (Reply PropMap)
-revprops_by w xs = if bytes_eq w (codes "revprops") then option_map Some (proplist_in xs) else if bytes_eq w (codes "failure") then option_map (λ l. None) (list_in xs) else None
+revprops_by w xs = if bytes_eq w (codes "revprops") then option_map Some (proplist_in xs) else if bytes_eq w (codes "failure") then failed_in xs else None
 
 abbrev pub revprops_said : Item → Option (Reply PropMap)
 revprops_said x = option_and_then (λ xs. option_and_then (λ w. revprops_by w.0 w.1) (word_in xs)) (parts_in x)
+
+abbrev pub revprops_past_by : List ℕ → Items → Bool
+revprops_past_by w xs = if bytes_eq w (codes "revprops") then props_past xs else false
+
+-- the word in front of an item's parts, and what stands behind it
+abbrev pub worded : Item → Option (List ℕ × Items)
+worded x = option_and_then word_in (parts_in x)
+
+abbrev pub revprops_past : Item → Bool
+revprops_past x = option_map_or (λ w. revprops_past_by w.0 w.1) (worded x) false
 
 -- ---- the opening
 
@@ -124,6 +147,17 @@ Told view o (Ok v) = o ≡ Some (Some (view v))
 Told view o (Err fault.Refused) = o ≡ Some None
 Told view o (Err fault.BadAnswer) = o ≡ None
 Told view o (Err (fault.Edit f)) = f ≡ edit.OutOfMemory
+
+-- the same of an item that may be past a limit, which is told so
+abbrev pub ToldWithin : {A T : Type 0} → Bool → (A → T) → Option (Reply T) → Result A ClientFault → Type 0
+ToldWithin past view o (Ok v) = o ≡ Some (Some (view v))
+ToldWithin past view o (Err fault.Refused) = o ≡ Some None
+ToldWithin past view o (Err fault.BadAnswer) = (o ≡ None) × (past ≡ false)
+ToldWithin past view o (Err (fault.Edit f)) = (f ≡ edit.OutOfMemory) ⊎ ((f ≡ edit.TooLong) × (o ≡ None) × (past ≡ true))
+
+-- of what has no limits
+abbrev pub never : Item → Bool
+never x = false
 
 abbrev pub ToldIn : {A T : Type 0} → (A → T) → Option T → Result A ClientFault → Type 0
 ToldIn view o = Told view (option_map Some o)

@@ -17,7 +17,7 @@ use Rattle.ra_item.specs.declared.stream.ItemStream.{ItemStream}
 use Rattle.ra_edit.specs.declared.edit_fault.EditFault.TheVariants as edit
 use Rattle.edit_road.specs.Receiving.{IsNextEdit, Receives, Refuses, RefusesEdit}
 use Rattle.ra_client.specs.Faults.{of_next}
-use Rattle.ra_client.specs.Said.{Reply, Told}
+use Rattle.ra_client.specs.Said.{Reply, ToldWithin, never}
 use Rattle.ra_client.specs.declared.fault.ClientFault.{ClientFault}
 use Rattle.ra_client.specs.declared.fault.ClientFault.TheVariants as fault
 
@@ -46,11 +46,11 @@ OnOutput step old new result = step old.1 new.1 result × (new.0 ≡ old.0)
 
 -- ---- reading
 
--- the next item of a stream: what is made of it; or the bytes end before it, or it is no item
-pub data IsNext {A T : Type 0} (view : A → T) (what : Item → Option (Reply T)) (before after : Option (List ℕ)) (was is : List ℕ → Stream) (spent : Bool) (failed : Counts) (result : Result A ClientFault) : Type 0 where
-  OfItem : (x : Item) → Takes (x ∷ []) before after was is → Told view (what x) result → IsNext view what before after was is spent failed result
-  OfEnd : Ends [] true before after was → result ≡ Err fault.BadAnswer → IsNext view what before after was is spent failed result
-  OfStream : (e : NextFault) → Stops [] before after was spent failed e → result ≡ Err (of_next e) → IsNext view what before after was is spent failed result
+-- the next item of a stream: what is made of it, unless it is past a limit; or the bytes end before it, or it is no item
+pub data IsNext {A T : Type 0} (view : A → T) (what : Item → Option (Reply T)) (past : Item → Bool) (before after : Option (List ℕ)) (was is : List ℕ → Stream) (spent : Bool) (failed : Counts) (result : Result A ClientFault) : Type 0 where
+  OfItem : (x : Item) → Takes (x ∷ []) before after was is → ToldWithin (past x) view (what x) result → IsNext view what past before after was is spent failed result
+  OfEnd : Ends [] true before after was → result ≡ Err fault.BadAnswer → IsNext view what past before after was is spent failed result
+  OfStream : (e : NextFault) → Stops [] before after was spent failed e → result ≡ Err (of_next e) → IsNext view what past before after was is spent failed result
 
 -- what the input has given meanwhile
 abbrev pub counts_of : {R : Type 0} {g : InputGhosts R} → ItemStream R g → ItemStream R g → Counts
@@ -65,8 +65,11 @@ pub record Goes {R A : Type 0} {g : InputGhosts R} (old new : ItemStream R g) (r
   pub later : IsLater old new
   pub goes_on : OnOk result (is_spent new ≡ false)
 
+abbrev pub TakesWithin : {R A T : Type 0} {g : InputGhosts R} → (A → T) → (Item → Option (Reply T)) → (Item → Bool) → ItemStream R g → ItemStream R g → Result A ClientFault → Type 0
+TakesWithin {R} {A} {T} {g} view what past old new result = IsNext view what past (g.remaining (reader_of old)) (g.remaining (reader_of new)) (ahead old) (ahead new) (is_spent old) (counts_of old new) result × Goes old new result
+
 abbrev pub TakesItem : {R A T : Type 0} {g : InputGhosts R} → (A → T) → (Item → Option (Reply T)) → ItemStream R g → ItemStream R g → Result A ClientFault → Type 0
-TakesItem {R} {A} {T} {g} view what old new result = IsNext view what (g.remaining (reader_of old)) (g.remaining (reader_of new)) (ahead old) (ahead new) (is_spent old) (counts_of old new) result × Goes old new result
+TakesItem view what = TakesWithin view what never
 
 -- the next items are an edit of which this set is made over these trees, and it has the effect of a set that was to come; or they
 -- aren't, and where one was to come, that is for memory or a read that failed

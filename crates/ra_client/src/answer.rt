@@ -1,6 +1,6 @@
 //! What single items say to a client.
 
-ghost use Rattle.std.specs.Prelude.{◌≡◌, map, IfOk, IfErr, Some};
+ghost use Rattle.std.specs.Prelude.{◌≡◌, map, IfOk, IfErr, false, Some};
 ghost use Rattle.std.specs.List.{list_any};
 ghost use Rattle.std.specs.Option.{option_map};
 ghost use Rattle.uuid.specs.Text.{parsed_hyphenated};
@@ -9,6 +9,8 @@ ghost use Rattle.ra_wire.specs.Params.{left_of, NotRead};
 ghost use Rattle.ra_client.specs.Said.{Told, ToldIn, same, reply_by, reply_said, done_said, authorised_said, none_of};
 ghost use Rattle.ra_client.specs.Said.{unasked_in, number_said, revision_in, revision_of, proplist_said, proplist_in};
 ghost use Rattle.ra_client.specs.Said.{revprops_by, revprops_said, greeting_said, version_2_in, version_2, asks_said};
+ghost use Rattle.ra_client.specs.Said.{failed_in, proplist_past, revprops_past, revprops_past_by, worded, ToldWithin};
+ghost use Rattle.ra_wire.specs.Limits.{props_past, NotWithin};
 ghost use Rattle.ra_client.specs.Said.{asks_in, asks_of, is_anonymous, welcome_said, repository_in, repository_of};
 ghost use Rattle.ra_client.specs.Found.{repository_as};
 
@@ -19,7 +21,8 @@ use ra_wire::answer::latest;
 use ra_wire::fault::WireFault;
 use ra_wire::opening::{Greeting, Mechanisms, Welcome};
 use ra_wire::params::Params;
-use ra_wire::props::{next_props, proplist};
+use ra_wire::props::props_within;
+use ra_wire::props_fault::PropsFault;
 use std::alloc::Global;
 use uuid::Uuid;
 
@@ -139,9 +142,10 @@ fn revision_of(number: u64) -> Result<RevNo, ClientFault>
     }
 }
 
-/// The properties of a revision. As [`content_of`].
+/// The properties of a revision. `Edit` with 8 for a value or a number of properties past the limits, and as
+/// [`content_of`].
 pub fn proplist_by(alloc: Global, item: Item) -> Result<Props, ClientFault>
-    ensures told { Told same (proplist_said item) result }
+    ensures told { ToldWithin (proplist_past item) same (proplist_said item) result }
 {
     match content_of(item) {
         Ok(content) => proplist_in(alloc, content),
@@ -150,18 +154,19 @@ pub fn proplist_by(alloc: Global, item: Item) -> Result<Props, ClientFault>
 }
 
 fn proplist_in(alloc: Global, content: Params) -> Result<Props, ClientFault>
-    ensures told { ToldIn same (proplist_in (left_of content)) result }
+    ensures told { ToldWithin (props_past (left_of content)) same (option_map Some (proplist_in (left_of content))) result }
 {
-    match proplist(alloc, content) {
+    let mut content = content;
+    match props_within(alloc, &mut content) {
         Ok(props) => Ok(props),
         Err(fault) => Err(ClientFault::from(fault)),
     }
 }
 
 /// The properties that stand in front of a revision's edit. `Refused` where a failure stands there, whatever it says;
-/// `BadAnswer` for another form.
+/// `Edit` with 8 for a value or a number of properties past the limits; `BadAnswer` for another form.
 pub fn revprops_by(alloc: Global, item: Item) -> Result<Props, ClientFault>
-    ensures told { Told same (revprops_said item) result }
+    ensures told { ToldWithin (revprops_past item) same (revprops_said item) result }
 {
     match revprops_of(alloc, item) {
         Ok(Some(props)) => Ok(props),
@@ -171,28 +176,63 @@ pub fn revprops_by(alloc: Global, item: Item) -> Result<Props, ClientFault>
 }
 
 // The same, or none where it is a failure.
-fn revprops_of(alloc: Global, item: Item) -> Result<Option<Props>, WireFault>
+fn revprops_of(alloc: Global, item: Item) -> Result<Option<Props>, PropsFault>
     ensures read { IfOk result (λ o. revprops_said item ≡ Some o) }
-    ensures none { IfErr result (NotRead (revprops_said item)) }
+    ensures none { IfErr result (NotWithin (revprops_said item) (revprops_past item)) }
+{
+    match worded(item) {
+        Ok((word, parts)) => revprops_with(alloc, word.as_slice(), parts),
+        Err(fault) => Err(PropsFault::from(fault)),
+    }
+}
+
+// The word in front of an item's parts, and what stands behind it.
+fn worded(item: Item) -> Result<(Vec<u8>, Params), WireFault>
+    ensures read { IfOk result (λ w. worded item ≡ Some (w.0.items, left_of w.1)) }
+    ensures none { IfErr result (NotRead (worded item)) }
 {
     let mut parts = Params::of(item)?;
     let word = parts.word()?;
-    revprops_with(alloc, word.as_slice(), parts)
+    Ok((word, parts))
 }
 
 // The same by the word in front.
-fn revprops_with(alloc: Global, word: &[u8], parts: Params) -> Result<Option<Props>, WireFault>
+fn revprops_with(alloc: Global, word: &[u8], parts: Params) -> Result<Option<Props>, PropsFault>
     ensures read { IfOk result (λ o. revprops_by word.now (left_of parts) ≡ Some o) }
-    ensures none { IfErr result (NotRead (revprops_by word.now (left_of parts))) }
+    ensures none { IfErr result (NotWithin (revprops_by word.now (left_of parts))
+        (revprops_past_by word.now (left_of parts))) }
+{
+    if word == b"revprops".as_slice() {
+        props_or_none(alloc, parts)
+    } else if word == b"failure".as_slice() {
+        failed(parts)
+    } else {
+        Err(PropsFault::BadShape)
+    }
+}
+
+// The list of properties.
+fn props_or_none(alloc: Global, parts: Params) -> Result<Option<Props>, PropsFault>
+    ensures read { IfOk result (λ o. option_map Some (proplist_in (left_of parts)) ≡ Some o) }
+    ensures none { IfErr result (NotWithin (option_map Some (proplist_in (left_of parts)))
+        (props_past (left_of parts))) }
 {
     let mut parts = parts;
-    if word == b"revprops".as_slice() {
-        Ok(Some(next_props(alloc, &mut parts)?))
-    } else if word == b"failure".as_slice() {
-        parts.items()?;
-        Ok(None)
-    } else {
-        Err(WireFault::BadShape)
+    match props_within(alloc, &mut parts) {
+        Ok(props) => Ok(Some(props)),
+        Err(fault) => Err(fault),
+    }
+}
+
+// The list of a failure, whatever it holds.
+fn failed(parts: Params) -> Result<Option<Props>, PropsFault>
+    ensures read { IfOk result (λ o. failed_in (left_of parts) ≡ Some o) }
+    ensures none { IfErr result (NotWithin (failed_in (left_of parts)) false) }
+{
+    let mut parts = parts;
+    match parts.items() {
+        Ok(_) => Ok(None),
+        Err(fault) => Err(PropsFault::from(fault)),
     }
 }
 

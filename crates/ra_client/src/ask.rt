@@ -7,8 +7,8 @@ ghost use Rattle.byte_streams.specs.Sinks.{inner_of};
 ghost use Rattle.ra_wire.specs.Commands.{command_as};
 ghost use Rattle.ra_client.specs.Exchanges.{SendsCommand, TakesAnswer, TakesRevision, TakesSet, AsksLatest, AsksProps};
 ghost use Rattle.ra_client.specs.Exchanges.{AsksRevision};
-ghost use Rattle.ra_client.specs.Said.{number_said, proplist_said, done_said, same};
-ghost use Rattle.ra_client.specs.Steps.{Sends, Gives, TakesItem, IsHandedOn, IsFlushed};
+ghost use Rattle.ra_client.specs.Said.{number_said, proplist_said, proplist_past, done_said, same};
+ghost use Rattle.ra_client.specs.Steps.{Sends, Gives, TakesItem, TakesWithin, IsHandedOn, IsFlushed};
 
 use crate::fault::ClientFault;
 use crate::take::{
@@ -112,7 +112,7 @@ fn take_props<I: Input + Drop>(
     alloc: Global,
     items: &mut ItemStream<I>,
 ) -> Result<Props, ClientFault>
-    ensures taken { TakesAnswer (TakesItem same proplist_said) items.old items.new result }
+    ensures taken { TakesAnswer (TakesWithin same proplist_said proplist_past) items.old items.new result }
 {
     match take_authorised(alloc, items) {
         Ok(()) => take_proplist(alloc, items),

@@ -1,18 +1,19 @@
 //! Why a server's answer isn't taken.
 
 ghost use Rattle.std.specs.Prelude.{◌≡◌};
-ghost use Rattle.ra_client.specs.Faults.{number_of, of_next, of_sink, of_wire, of_edit, is_answer};
+ghost use Rattle.ra_client.specs.Faults.{number_of, of_next, of_sink, of_wire, of_props, of_edit, is_answer};
 
 use byte_streams::SinkFault;
 use ra_edit::edit_fault::EditFault;
 use ra_item::fault::NextFault;
 use ra_wire::fault::WireFault;
+use ra_wire::props_fault::PropsFault;
 use thiserror::Error;
 
 /// Why a call of a client isn't answered.
 #[derive(Clone, Copy, Debug, PartialEq, Eq, Drop, Error)]
 pub enum ClientFault {
-    /// The stream, the edit in it, or want of memory; the number is that refusal's.
+    /// The stream, the edit in it, properties past a limit, or want of memory; the number is that refusal's.
     #[error("{0}")]
     Edit(EditFault),
     /// The server sent a failure as its answer (60). The session goes on.
@@ -70,6 +71,18 @@ impl From<WireFault> for ClientFault {
             WireFault::ReplayForm | WireFault::UnknownCommand | WireFault::BadShape => {
                 ClientFault::BadAnswer
             }
+        }
+    }
+}
+
+impl From<PropsFault> for ClientFault {
+    ghost from_gives = { λ f e. e ≡ of_props f };
+
+    fn from(fault: PropsFault) -> ClientFault {
+        match fault {
+            PropsFault::TooLong => ClientFault::Edit(EditFault::TooLong),
+            PropsFault::BadShape => ClientFault::BadAnswer,
+            PropsFault::OutOfMemory => ClientFault::Edit(EditFault::OutOfMemory),
         }
     }
 }

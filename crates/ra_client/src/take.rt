@@ -4,8 +4,8 @@ ghost use Rattle.std.specs.Prelude.{◌≡◌, ◌≤◌, length, IfOk};
 ghost use Rattle.dump_load.specs.Trees.{Makes};
 ghost use Rattle.ra_client.specs.Found.{repository_as};
 ghost use Rattle.ra_client.specs.Said.{authorised_said, done_said, number_said, proplist_said, revprops_said, same};
-ghost use Rattle.ra_client.specs.Said.{greeting_said, asks_said, welcome_said};
-ghost use Rattle.ra_client.specs.Steps.{TakesItem, TakesEdit, IsComing};
+ghost use Rattle.ra_client.specs.Said.{proplist_past, revprops_past, greeting_said, asks_said, welcome_said};
+ghost use Rattle.ra_client.specs.Steps.{TakesItem, TakesWithin, TakesEdit, IsComing};
 
 use crate::answer;
 use crate::answer::Repository;
@@ -68,7 +68,7 @@ pub fn take_proplist<I: Input + Drop>(
     alloc: Global,
     items: &mut ItemStream<I>,
 ) -> Result<Props, ClientFault>
-    ensures taken { TakesItem same proplist_said items.old items.new result }
+    ensures taken { TakesWithin same proplist_said proplist_past items.old items.new result }
 {
     match next_item(items) {
         Ok(item) => answer::proplist_by(alloc, item),
@@ -81,7 +81,7 @@ pub fn take_revprops<I: Input + Drop>(
     alloc: Global,
     items: &mut ItemStream<I>,
 ) -> Result<Props, ClientFault>
-    ensures taken { TakesItem same revprops_said items.old items.new result }
+    ensures taken { TakesWithin same revprops_said revprops_past items.old items.new result }
 {
     match next_item(items) {
         Ok(item) => answer::revprops_by(alloc, item),

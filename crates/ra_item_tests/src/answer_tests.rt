@@ -8,13 +8,15 @@ use ra_wire::browse::{DirFound, FileFound};
 use ra_wire::dirent::Dirent;
 use ra_wire::law;
 use ra_wire::opening::Mechanisms;
-use ra_wire::props::{proplist, revprops};
+use ra_wire::props::{proplist, props_within, revprops};
+use ra_wire::props_fault::PropsFault;
 use ra_wire::reply::{Refused, Reply};
 use ra_wire::reply_writer::{
     write_dir, write_failure, write_file, write_kind, write_latest, write_proplist, write_revprops,
     write_value,
 };
-use std::alloc::Global;
+use std::alloc::{AllocError, Global};
+use std::process::Abort;
 
 // Whether the first of some refusals is this.
 fn begins_with(all: &[Refused], number: u64, text: &[u8], file: &[u8], line: u64) -> bool {
@@ -192,6 +194,55 @@ fn properties_in_any_order(rt: HostRuntime) {
     assert!(rt; are_last(&props_of(alloc, twice)));
     assert!(rt; props_of(alloc, b"( success ( ( ( 1:a 0: ) ( 1:b x ) ) ) ) ").is_empty());
     assert!(rt; front_props(alloc, b"( revprop ( ( 1:a 0: ) ) ) ").is_empty());
+}
+
+// An answer with properties: these, one whose value has so many bytes, and these behind it.
+fn with_value(
+    alloc: Global,
+    front: &[u8],
+    size: usize,
+    rest: &[u8],
+) -> Result<Vec<u8>, AllocError> {
+    let mut bytes = Vec::from_slice(alloc, b"( success ( ( ")?;
+    bytes.extend_from_slice(front)?;
+    bytes.extend_from_slice(format!(in alloc; "( 1:v {size}:")?.as_bytes())?;
+    for _ in 0..size {
+        bytes.push(b'x')?;
+    }
+    bytes.extend_from_slice(b" ) ")?;
+    bytes.extend_from_slice(rest)?;
+    bytes.extend_from_slice(b") ) ) ")?;
+    Ok(bytes)
+}
+
+// Why the properties of an answer aren't read, where they aren't.
+fn unread(alloc: Global, bytes: &[u8]) -> Option<PropsFault> {
+    let mut content = content_of(alloc, bytes)?;
+    props_within(alloc, &mut content).err()
+}
+
+// The same with such a value among them.
+fn unread_with(
+    rt: &impl Abort,
+    alloc: Global,
+    front: &[u8],
+    size: usize,
+    rest: &[u8],
+) -> Option<PropsFault> {
+    let bytes = with_value(alloc, front, size, rest).expect(rt, "memory");
+    unread(alloc, bytes.as_slice())
+}
+
+// A value at its limit and past it, and that the first property that can't be put decides.
+#[test]
+fn properties_past_a_limit(rt: HostRuntime) {
+    let alloc = rt.alloc();
+    let good: &[u8] = b"( 1:a 0: ) ";
+    let bad: &[u8] = b"( 1:b ) ";
+    assert!(rt; unread_with(&rt, alloc, good, 65_536, good).is_none());
+    assert!(rt; unread_with(&rt, alloc, good, 65_537, bad) == Some(PropsFault::TooLong));
+    assert!(rt; unread_with(&rt, alloc, bad, 65_537, good) == Some(PropsFault::BadShape));
+    assert!(rt; unread(alloc, b"( success ( 1 ) ) ") == Some(PropsFault::BadShape));
 }
 
 // Writes an answer of each kind, and the failures that the rows have.

@@ -2,7 +2,7 @@
 
 use byte_streams::{
     CountedReader, CountedWriter, FuseInput, Input, Lent, MemOutput, Output, Sink, SinkFault,
-    StreamFault, has_failed_since, write_bytes,
+    StreamFault, VecWriter, has_failed_since, write_bytes,
 };
 use std::alloc::Global;
 use std::io;
@@ -95,6 +95,20 @@ fn memory_holds_back_until_a_flush(rt: HostRuntime) {
     assert!(rt; write_bytes(&mut output, b"ab") == Ok(()) && output.handed_on() == 0);
     assert!(rt; output.flush() == Ok(()) && output.handed_on() == 2);
     assert!(rt; fails_once(&mut output) && output.bytes() == b"ab".as_slice());
+}
+
+// What a writer to memory has after both kinds of writes.
+fn is_appended(mut out: VecWriter, bytes: &[u8]) -> bool {
+    let taken = out.write(b"hel").is_ok() && out.write_all(b"lo").is_ok() && out.flush().is_ok();
+    taken && out.as_slice() == bytes && out.into_bytes().as_slice() == bytes
+}
+
+#[test]
+fn each_write_to_memory_is_appended(rt: HostRuntime) {
+    assert!(rt; is_appended(VecWriter::new(rt.alloc()), b"hello"));
+    let mut out = VecWriter::with_room(rt.alloc(), 2).expect(&rt, "memory");
+    assert!(rt; out.write_all(b"x").is_ok() && out.restart(9).is_ok());
+    assert!(rt; is_appended(out, b"hello"));
 }
 
 // Code that knows std's writers alone.

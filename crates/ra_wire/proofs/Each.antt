@@ -71,9 +71,3 @@ not_each what front x rest all fault.OutOfMemory e h = tt
 not_each what front x rest all fault.BadShape e h = ap (λ l. each what (row l)) e ∙ each_none what front x rest h
 not_each what front x rest all fault.ReplayForm e h = h
 not_each what front x rest all fault.UnknownCommand e h = h
-
-pub not_properties : (m : PropMap) (front : List Item) (x : Item) (rest all : List Item) (old : PropMap) (f : WireFault) → all ≡ front ++ x ∷ rest → properties_of m (row front) ≡ Some old → NotRead (one_more old x) f → NotRead (properties_of m (row all)) f
-not_properties m front x rest all old fault.OutOfMemory e read h = tt
-not_properties m front x rest all old fault.BadShape e read h = ap (λ l. properties_of m (row l)) e ∙ properties_none m front x rest old read h
-not_properties m front x rest all old fault.ReplayForm e read h = h
-not_properties m front x rest all old fault.UnknownCommand e read h = h

@@ -1,6 +1,7 @@
 pub mod Each
 pub mod Judged
 pub mod Kept
+pub mod Limits
 pub mod Listed
 pub mod Prototypes
 pub mod ReadAgain

@@ -2,6 +2,7 @@ pub mod Answers
 pub mod Commands
 pub mod Faults
 pub mod Laws
+pub mod Limits
 pub mod Openings
 pub mod Params
 pub mod Prototypes

@@ -27,5 +27,6 @@ pub mod opening;
 pub mod params;
 mod pieces;
 pub mod props;
+pub mod props_fault;
 pub mod reply;
 pub mod reply_writer;

@@ -42,8 +42,8 @@ use Rattle.ra_serve.specs.declared.fault.End.TheVariants as end
 use Rattle.ra_serve.specs.declared.fault.PortFault.{PortFault}
 use Rattle.ra_client.specs.Exchanges.{Asks, AsksLatest, AsksProps, AsksRevision, TakesRevision, Opens, IsGreeted, IsWelcomed, IsKnown, LogsIn}
 use Rattle.ra_client.specs.Ports.{Calls, Asked, Over, IsOpening, ends_of}
-use Rattle.ra_client.specs.Said.{Repository as Found, Reply, same, authorised_said, done_said, number_said, proplist_said, revprops_said, greeting_said, asks_said, welcome_said}
-use Rattle.ra_client.specs.Steps.{Stopped, Went, TakesItem, OfItem, OfEnd, OfStream}
+use Rattle.ra_client.specs.Said.{Repository as Found, Reply, never, same, authorised_said, done_said, number_said, proplist_said, proplist_past, revprops_said, revprops_past, greeting_said, asks_said, welcome_said}
+use Rattle.ra_client.specs.Steps.{Stopped, Went, TakesItem, TakesWithin, OfItem, OfEnd, OfStream}
 use Rattle.ra_client.specs.Telling.{IsRevisionMade, IsToCome, HearsNumber, HearsProps, HearsRevision, proplist_told, revision_told}
 use Rattle.ra_client.specs.declared.fault.ClientFault.{ClientFault}
 use Rattle.ra_client.specs.declared.port.ClientPort.{ClientPort}
@@ -116,8 +116,8 @@ welcome_is x back = rw (sym back) refl
 
 module _ {R : Type 0} {g : InputGhosts R} (taken : WrittenIsTaken) where
   -- a refusal by the port itself is no answer
-  no_item : {A T : Type 0} (view : A → T) (what : Item → Option (Reply T)) (f : PortFault) → IsOwn f → what (refusal_item f) ≡ Some None → (old new : ItemStream R g) (a : A) (more : List ℕ) → IsToCome {g = g} (refused (refusal_of f) ++ more) old → TakesItem view what old new (Ok a) → ⊥
-  no_item view what f own none old new a more there (OfItem y t told, goes) =
+  no_item : {A T : Type 0} (view : A → T) (what : Item → Option (Reply T)) (past : Item → Bool) (f : PortFault) → IsOwn f → what (refusal_item f) ≡ Some None → (old new : ItemStream R g) (a : A) (more : List ℕ) → IsToCome {g = g} (refused (refusal_of f) ++ more) old → TakesWithin view what past old new (Ok a) → ⊥
+  no_item view what past f own none old new a more there (OfItem y t told, goes) =
       let at = subst (λ z. IsBefore (z ++ more) (g.remaining (reader_of old)) (ahead old)) (sym (append-nil (spell (refusal_item f)))) there.0 in
       let d : y ≡ refusal_item f = item_alone y (refusal_item f) (taken (refusal_item f ∷ []) (y ∷ []) more (g.remaining (reader_of old)) (g.remaining (reader_of new)) (ahead old) (ahead new) (refusal_fits f own, tt) refl at t).0 in
       let e : Some None ≡ Some (Some (view a)) = sym none ∙ sym (ap what d) ∙ told in
@@ -125,8 +125,8 @@ module _ {R : Type 0} {g : InputGhosts R} (taken : WrittenIsTaken) where
     where
       item_alone : (y z : Item) → y ∷ [] ≡ z ∷ [] → y ≡ z
       item_alone y z e = cc
-  no_item view what f own none old new a more there (OfEnd t e, goes) = cc
-  no_item view what f own none old new a more there (OfStream k t e, goes) = cc
+  no_item view what past f own none old new a more there (OfEnd t e, goes) = cc
+  no_item view what past f own none old new a more there (OfStream k t e, goes) = cc
 
 module _ {R O : Type 0} {g : InputGhosts R} {h : OutputGhosts O} (taken : WrittenIsTaken) (comes : WrittenComes) where
   logged : (old new : ItemStream R g × Sink O h) (u : Unit {0}) (more : List ℕ) → IsToCome {g = g} (spell done ++ more) old.0 → LogsIn true old new (Ok u) → IsToCome {g = g} more new.0
@@ -196,7 +196,7 @@ latest_told {R} {O} {g} {h} taken comes x few old new r asked hears calls = by a
   where
     by : (t : Option Halt) → MayHaltAt true x (command_in (command_item LatestRev)) t → IsOpenBefore {g = g} {h = h} x (answer true x (command_in (command_item LatestRev)) t) old → IfOk r (λ n. n ≡ head_of x.revisions)
     by None l o = ok_of _ (λ n. n ≡ head_of x.revisions) _ r (hears (head_of x.revisions) (omega (arith, few)) o.going [] o.to_come)
-    by (Some t) l o = no_answer taken comes LatestRev (TakesItem same number_said) t.cause (no_item taken same number_said t.cause l.own refl) (λ n. n ≡ head_of x.revisions) old new r o.to_come calls
+    by (Some t) l o = no_answer taken comes LatestRev (TakesItem same number_said) t.cause (no_item taken same number_said never t.cause l.own refl) (λ n. n ≡ head_of x.revisions) old new r o.to_come calls
 
 -- the properties of a revision
 are_props : (T : PathMap → Type 0) (o : Option Revision) (p : PropMap) → IsSomeAnd (option_map (λ y. y.tree) o) T → p ≡ option_map_or (λ y. y.props) o finite.empty → option_map (λ y. y.props) o ≡ Some p
@@ -211,7 +211,7 @@ props_told {R} {O} {g} {h} taken comes x n there may old new r asked hears calls
 
     by : (t : Option Halt) → MayHaltAt true x (command_in (command_item (RevProplist n))) t → IsOpenBefore {g = g} {h = h} x (answer true x (command_in (command_item (RevProplist n))) t) old → IfOk r (λ p. p ≡ props_at x.revisions n)
     by None l o = ok_of _ (λ p. p ≡ props_at x.revisions n) _ r (hears (props_at x.revisions n) may.properties o.going [] (subst (λ z. IsToCome {g = g} (z ++ []) (ends_of old).0) tells o.to_come))
-    by (Some t) l o = no_answer taken comes (RevProplist n) (TakesItem same proplist_said) t.cause (no_item taken same proplist_said t.cause l.own refl) (λ p. p ≡ props_at x.revisions n) old new r o.to_come calls
+    by (Some t) l o = no_answer taken comes (RevProplist n) (TakesWithin same proplist_said proplist_past) t.cause (no_item taken same proplist_said proplist_past t.cause l.own refl) (λ p. p ≡ props_at x.revisions n) old new r o.to_come calls
 
 -- a revision
 set_in : (o : Option PathMap) (trees : List PathMap) (s set : List Change) (t : PathMap) → Makes trees set t → ((q : Path) → effect trees set q ≡ effect trees s q) → IsSomeAnd o (λ t. (q : Path) → effect trees s q ≡ finite.get t q) → IsSomeAnd o (Makes trees set)
@@ -243,4 +243,4 @@ revision_told_so {R} {O} {g} {h} taken comes server x n there may trees are old 
       where
         nothing : (old new : ItemStream R g) (v : Applied × PropMap) (more : List ℕ) → IsToCome {g = g} (refused (refusal_of t.cause) ++ more) old → TakesRevision trees old new (Ok v) → ⊥
         nothing old new v more there (Stopped f k e) = cc
-        nothing old new v more there (Went mid p k s) = no_item taken same revprops_said t.cause l.own refl old mid p more there k
+        nothing old new v more there (Went mid p k s) = no_item taken same revprops_said revprops_past t.cause l.own refl old mid p more there k

@@ -27,11 +27,11 @@ use Rattle.ra_serve.specs.Answers.{answer, edits, revision_bytes}
 use Rattle.ra_serve.specs.Ports.{set_of}
 use Rattle.ra_serve.proofs.Ranges.{both_there}
 use Rattle.ra_client.specs.Faults.{number_of}
-use Rattle.ra_client.specs.Said.{same, authorised_said, done_said, revprops_said}
-use Rattle.ra_client.specs.Steps.{TakesItem, TakesEdit, counts_of, IsLater}
+use Rattle.ra_client.specs.Said.{same, authorised_said, done_said, revprops_said, revprops_past}
+use Rattle.ra_client.specs.Steps.{TakesItem, TakesWithin, TakesEdit, counts_of, IsLater}
 use Rattle.ra_client.specs.Telling.{IsToCome, IsRevision}
 use Rattle.ra_client.specs.declared.fault.ClientFault.{ClientFault}
-use Rattle.ra_client.proofs.Carried.{to_come_behind, match_more, excused_more, carry_item, carry_edit, authorised_fits, done_fits}
+use Rattle.ra_client.proofs.Carried.{to_come_behind, match_more, excused_more, carry_item, carry_within, carry_edit, authorised_fits, done_fits}
 use Rattle.ra_client.proofs.Fair.{fails_later}
 use Rattle.ra_client.proofs.Fitting.{revprops_fit}
 use Rattle.session_road.specs.Told.{MayBeHeard}
@@ -74,8 +74,8 @@ hears_authorised taken comes old new r h more there = carry_item taken comes sam
 pub hears_done : {R : Type 0} {g : InputGhosts R} → WrittenIsTaken → WrittenComes → (old new : ItemStream R g) (r : Result (Unit {0}) ClientFault) → TakesItem same done_said old new r → HearsFrom (spell done) (λ (u : Unit {0}). u ≡ tt) old new r
 hears_done taken comes old new r h more there = carry_item taken comes same done_said done tt done_fits refl old new r more there h
 
-pub hears_props : {R : Type 0} {g : InputGhosts R} → WrittenIsTaken → WrittenComes → (m : PropMap) → IsProps m → (old new : ItemStream R g) (r : Result PropMap ClientFault) → TakesItem same revprops_said old new r → HearsFrom (spell (revprops m)) (λ found. found ≡ m) old new r
-hears_props taken comes m fit old new r h more there = carry_item taken comes same revprops_said (revprops m) m (revprops_fit m fit) (ap (option_map Some) (props_again m fit).of_revprops) old new r more there h
+pub hears_props : {R : Type 0} {g : InputGhosts R} → WrittenIsTaken → WrittenComes → (m : PropMap) → IsProps m → (old new : ItemStream R g) (r : Result PropMap ClientFault) → TakesWithin same revprops_said revprops_past old new r → HearsFrom (spell (revprops m)) (λ found. found ≡ m) old new r
+hears_props taken comes m fit old new r h more there = carry_within taken comes same revprops_said revprops_past (revprops m) m (revprops_fit m fit) (ap (option_map Some) (props_again m fit).of_revprops) old new r more there h
 
 -- ---- one revision
 
@@ -85,10 +85,10 @@ edit_heard trees props old new applied h s may more there = let m = carry_edit t
 pub edit_unheard : {R : Type 0} {g : InputGhosts R} (trees : List PathMap) (props : PropMap) (old new : ItemStream R g) (f : ClientFault) → TakesEdit trees old new (Err f) → HearsEdit trees props old new (Err f)
 edit_unheard trees props old new f h s may more there = carry_edit trees s may old new (Err f) more there h
 
-pub next_heard : {R : Type 0} {g : InputGhosts R} → WrittenIsTaken → WrittenComes → (trees : List PathMap) (old mid new : ItemStream R g) (props : PropMap) (r : Result (List Change × PropMap) ClientFault) → TakesItem same revprops_said old mid (Ok props) → HearsEdit trees props mid new r → HearsNext trees old new r
+pub next_heard : {R : Type 0} {g : InputGhosts R} → WrittenIsTaken → WrittenComes → (trees : List PathMap) (old mid new : ItemStream R g) (props : PropMap) (r : Result (List Change × PropMap) ClientFault) → TakesWithin same revprops_said revprops_past old mid (Ok props) → HearsEdit trees props mid new r → HearsNext trees old new r
 next_heard taken comes trees old mid new props r h k s m may fit = went (spell (revprops m)) (edit_bytes (drive trees s)) (λ found. found ≡ m) (IsRevision trees s m) old mid new props r h.1.later (hears_props taken comes m fit old mid (Ok props) h) (λ e. subst (λ z. HearsFrom (edit_bytes (drive trees s)) (IsRevision trees s z) mid new r) e (k s may))
 
-pub next_unheard : {R : Type 0} {g : InputGhosts R} → WrittenIsTaken → WrittenComes → (trees : List PathMap) (old new : ItemStream R g) (f : ClientFault) → TakesItem same revprops_said old new (Err f) → HearsNext trees old new (Err f)
+pub next_unheard : {R : Type 0} {g : InputGhosts R} → WrittenIsTaken → WrittenComes → (trees : List PathMap) (old new : ItemStream R g) (f : ClientFault) → TakesWithin same revprops_said revprops_past old new (Err f) → HearsNext trees old new (Err f)
 next_unheard taken comes trees old new f h s m may fit = stopped (spell (revprops m)) (edit_bytes (drive trees s)) (λ found. found ≡ m) (IsRevision trees s m) old new f (hears_props taken comes m fit old new (Err f) h)
 
 -- ---- a revision of a repository

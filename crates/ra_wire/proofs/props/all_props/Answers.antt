@@ -1,7 +1,8 @@
 use Rattle.std.proofs.Common.{[], ◌∷◌, ◌++◌, ◌∙◌, ap, sym, append_assoc}
 use Rattle.std.proofs.lemmas.Result.{err_from_is_err_and}
 use Rattle.std.specs.FinMap as finite
-use Rattle.ra_wire.proofs.Each.{properties_more, not_properties}
+use Rattle.ra_wire.proofs.Each.{properties_more}
+use Rattle.ra_wire.proofs.Limits.{not_properties}
 use Rattle.ra_wire.proofs.props.all_props.Goals as goal
 
 pub loop-item-preserved : goal.loop-item-preserved
