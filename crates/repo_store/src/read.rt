@@ -15,6 +15,7 @@ ghost use Rattle.repo_store.specs.Journal.{IsBeginning, Spells};
 ghost use Rattle.repo_store.specs.Readings.{records_of, so_far, AreReadAs, IsDumpOf, IsRevisionOf};
 
 use crate::spell;
+use byte_streams::VecWriter;
 use dump_text::law::dumps_are_read;
 use dump_text::{DumpFault, DumpReader, DumpRecord, NodeRecord, RevRecord, write_revision};
 use node_base::{Props, RevNo};
@@ -174,7 +175,7 @@ fn revision_of(alloc: Global, records: Vec<DumpRecord>) -> Result<RevRecord, Rea
 fn is_canonical(
     revision: &RevRecord,
     bytes: &[u8],
-    written: &mut Vec<u8>,
+    written: &mut VecWriter,
 ) -> Result<bool, AllocError>
     ensures holds { IfOk result (λ b. IsTrue b ↔ ((are_whole revision.now.nodes.items ≡ true)
         × (canon_revision revision.now ≡ bytes.now))) }
@@ -184,8 +185,7 @@ fn is_canonical(
     if !revision.is_whole() {
         return Ok(false);
     }
-    written.clear();
-    written.reserve(bytes.len())?;
+    written.restart(bytes.len())?;
     if write_revision(written, revision).is_err() {
         return Err(AllocError);
     }
@@ -198,7 +198,7 @@ fn is_canonical(
 pub fn read_revision(
     alloc: Global,
     bytes: &[u8],
-    written: &mut Vec<u8>,
+    written: &mut VecWriter,
 ) -> Result<RevRecord, ReadFault>
     ensures read { IfOk result (IsRevisionOf bytes.now) }
     ensures bad { IsErrOf result ReadFault.Bad → (e : EntryOf) → Spells bytes.now e → ⊥ }

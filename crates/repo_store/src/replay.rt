@@ -19,6 +19,7 @@ ghost use Rattle.repo_store.specs.Refusals.{IsReplayFault};
 ghost use Rattle.repo_store.specs.Journal.{IsBeginning, Spells, Takes, Tell, IsFirstBad};
 
 use crate::read::{ReadFault, read_beginning, read_revision};
+use byte_streams::VecWriter;
 use dump_load::{Change, ChangeSet};
 use dump_text::law::dumps_are_read;
 use dump_text::{NodeRecord, RevRecord};
@@ -107,7 +108,7 @@ fn take_entry(
     alloc: Global,
     repo: &mut Repo,
     bytes: &[u8],
-    written: &mut Vec<u8>,
+    written: &mut VecWriter,
 ) -> Result<(), ReadFault>
     ensures taken { OnOk result ((e : EntryOf) × Spells bytes.now e × Takes repo.old.revisions e
         × (repo.new ≡ with_entry_in repo.old e)) }
@@ -151,7 +152,7 @@ fn read_next<D: Disk>(
     log: &mut GateLog<D>,
     entry: u64,
     repo: &mut Repo,
-    written: &mut Vec<u8>,
+    written: &mut VecWriter,
 ) -> Result<(), LogFault>
     requires there { entry < length (ends_of log.old) }
     requires working { ¬ HasFailed log.old }
@@ -240,7 +241,7 @@ pub fn replay<D: Disk>(alloc: Global, log: &mut GateLog<D>) -> Result<Repo, LogF
 {
     dumps_are_read();
     let mut repo = read_first(alloc, log)?;
-    let mut written = Vec::new(alloc);
+    let mut written = VecWriter::new(alloc);
     for entry in 1..log.len() {
         read_next(alloc, log, entry, &mut repo, &mut written)?;
     }

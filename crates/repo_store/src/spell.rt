@@ -6,6 +6,7 @@ ghost use Rattle.dump_text.specs.declared.record.DumpRecord.TheVariants as told;
 ghost use Rattle.repo_core.specs.declared.entry.Entry.TheVariants.{Revised, Mapped};
 ghost use Rattle.repo_store.specs.Journal.{spelling, HasSet, Spells, IsBeginning};
 
+use byte_streams::VecWriter;
 use dump_load::ChangeSet;
 use dump_text::law::dumps_go_on;
 use dump_text::{RevRecord, write_head, write_props_entry, write_revision};
@@ -38,14 +39,14 @@ pub fn beginning(alloc: Global, identity: &Uuid, props: &Props) -> Result<Vec<u8
     ensures { IfOk result (λ v. IsBeginning v.items identity.now props.now) }
 {
     dumps_go_on();
-    let mut bytes = Vec::with_capacity(alloc, room_of(props))?;
-    if write_head(&mut bytes, Some(identity)).is_err() {
+    let mut out = VecWriter::with_room(alloc, room_of(props))?;
+    if write_head(&mut out, Some(identity)).is_err() {
         return Err(AllocError);
     }
-    if write_props_entry(&mut bytes, RevNo::ZERO, props).is_err() {
+    if write_props_entry(&mut out, RevNo::ZERO, props).is_err() {
         return Err(AllocError);
     }
-    Ok(bytes)
+    Ok(out.into_bytes())
 }
 
 // The entry of a revision's other properties.
@@ -53,11 +54,11 @@ fn map_bytes(alloc: Global, number: RevNo, props: &Props) -> Result<Vec<u8>, All
     ensures canonical { IfOk result (λ v. v.items ≡ canon_entry number props.now) }
     ensures readable { OnOk result (AreRecords (canon_entry number props.now) (told.Revision number props.now ∷ [])) }
 {
-    let mut bytes = Vec::with_capacity(alloc, room_of(props))?;
-    if write_props_entry(&mut bytes, number, props).is_err() {
+    let mut out = VecWriter::with_room(alloc, room_of(props))?;
+    if write_props_entry(&mut out, number, props).is_err() {
         return Err(AllocError);
     }
-    Ok(bytes)
+    Ok(out.into_bytes())
 }
 
 // The canonical spelling of a revision.
@@ -66,11 +67,11 @@ fn text_of(alloc: Global, revision: &RevRecord) -> Result<Vec<u8>, AllocError>
     ensures readable { OnOk result (AreFormed revision.now.nodes.items
         → AreRecords (canon_revision revision.now) (read_revision revision.now)) }
 {
-    let mut bytes = Vec::with_capacity(alloc, revision.room())?;
-    if write_revision(&mut bytes, revision).is_err() {
+    let mut out = VecWriter::with_room(alloc, revision.room())?;
+    if write_revision(&mut out, revision).is_err() {
         return Err(AllocError);
     }
-    Ok(bytes)
+    Ok(out.into_bytes())
 }
 
 /// The entry of a new revision, or of one as it is now.
