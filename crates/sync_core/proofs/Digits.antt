@@ -3,9 +3,9 @@ use Rattle.std.proofs.Common.{◌≡◌, ℕ, true, false, nat_le, List, [], ◌
 use Rattle.std.specs.Option.{option_map_or}
 use Rattle.std.proofs.lemmas.Bool.Decides.{nat_tests}
 use Rattle.node_base.specs.Numbers.{is_digit, all_bytes, decimal}
-use Rattle.node_base.specs.Refusals.{shown_byte, shown_token}
+use Rattle.node_base.specs.Refusals.{shown_byte, shown_token, told_text}
 use Rattle.sync_core.specs.Names.{Misspelt, Spelt, Huge, is_spelt, starts_right, number_of}
-use Rattle.sync_core.specs.Faults.{told_of, told_text, DigitsAreTold}
+use Rattle.sync_core.specs.Faults.{told_of, DigitsAreTold}
 use Rattle.sync_core.proofs.Kept.{both}
 
 digit : (c : ℕ) → is_digit c ≡ true → shown_byte c ≡ c

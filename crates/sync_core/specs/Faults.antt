@@ -2,7 +2,7 @@
 use Rattle.std.specs.Prelude.{◌≡◌, ℕ, Bool, true, false, List, [], ◌∷◌, ◌++◌, Option, Some, None, codes}
 use Rattle.std.specs.Option.{option_map_or}
 use Rattle.std.specs.Fmt.{decimal}
-use Rattle.node_base.specs.Refusals.{refusal_number, refusal_text, shown_token}
+use Rattle.node_base.specs.Refusals.{refusal_number, refusal_text, told_text}
 use Rattle.node_base.specs.declared.refusal.Refusal.{Refusal}
 use Rattle.node_base.specs.declared.refusal.Refusal.TheVariants as refusal
 use Rattle.dump_load.specs.Faults.{change_refusal}
@@ -13,8 +13,8 @@ use Rattle.repo_core.specs.declared.fault.RepoFault.{RepoFault}
 use Rattle.repo_core.specs.declared.fault.RepoFault.TheVariants as repo
 use Rattle.sync_core.specs.Names.{Number, Absent, Misspelt, Spelt, Huge, number_of}
 use Rattle.sync_core.specs.declared.standing.Standing.{Standing}
-use Rattle.sync_core.specs.declared.told_number.ToldNumber.{ToldNumber}
-use Rattle.sync_core.specs.declared.told_number.ToldNumber.TheVariants as told
+use Rattle.node_base.specs.declared.told_number.ToldNumber.{ToldNumber}
+use Rattle.node_base.specs.declared.told_number.ToldNumber.TheVariants as told
 use Rattle.sync_core.specs.declared.fault.SyncFault.{SyncFault}
 use Rattle.sync_core.specs.declared.fault.SyncFault.TheVariants as fault
 
@@ -32,25 +32,15 @@ told_of Misspelt value = told.Missing
 told_of (Spelt n) value = told.Spelt n
 told_of Huge value = option_map_or told.Huge value told.Missing
 
-abbrev pub told_text : ToldNumber → List ℕ
-told_text told.Missing = codes "-"
-told_text (told.Spelt n) = decimal n
-told_text (told.Huge digits) = shown_token digits
-
 -- so a number from 2^64 on is told by its digits
 abbrev pub DigitsAreTold : Type 0
 DigitsAreTold = (digits : List ℕ) → number_of digits ≡ Huge → told_text (told_of (number_of digits) (Some digits)) ≡ digits
-
-abbrev pub spelt_told : ToldNumber → Option ℕ
-spelt_told told.Missing = None
-spelt_told (told.Spelt n) = Some n
-spelt_told (told.Huge digits) = None
 
 -- how a mirror stands that rests in no shape
 abbrev pub inconsistent_as : Standing → SyncFault
 inconsistent_as s = fault.Inconsistent (told_of s.merged s.merged_text) (told_of s.copying s.copying_text) s.head
 
--- as a refusal of the table. (One that tells a number holds none from 2^64 on.)
+-- as a refusal of the table
 abbrev pub refusal_of : SyncFault → Refusal
 refusal_of fault.NotInitialised = refusal.NotInitialised
 refusal_of fault.AlreadyInitialised = refusal.AlreadyInitialised
@@ -58,7 +48,7 @@ refusal_of fault.NotEmpty = refusal.NotEmpty
 refusal_of (fault.LockHeld token) = refusal.LockHeld token.bytes
 refusal_of (fault.HolderRunning token) = refusal.HolderRunning token.bytes
 refusal_of fault.WrongMaster = refusal.WrongMaster
-refusal_of (fault.Inconsistent merged copying head) = refusal.Inconsistent (spelt_told merged) (spelt_told copying) head
+refusal_of (fault.Inconsistent merged copying head) = refusal.Inconsistent merged copying head
 refusal_of (fault.NotYetCopied n) = refusal.NotYetCopied n
 refusal_of fault.NotHolder = refusal.NotHolder
 refusal_of (fault.MasterFailed text) = refusal.MasterFailed text
@@ -66,9 +56,8 @@ refusal_of fault.OutOfTurn = refusal.OutOfTurn
 refusal_of (fault.Other r) = r
 refusal_of fault.OutOfMemory = refusal.OutOfMemory
 
--- the text of a fault: that of its refusal, with all digits of a number
+-- the text of a fault: that of its refusal
 abbrev pub fault_text : SyncFault → List ℕ
-fault_text (fault.Inconsistent merged copying head) = codes "inconsistent: merged " ++ told_text merged ++ codes ", copying " ++ told_text copying ++ codes ", head " ++ decimal head
 fault_text f = refusal_text (refusal_of f)
 
 -- the line that a program prints for it

@@ -6,7 +6,6 @@ ghost use Rattle.sync_core.specs.Copies.{outcome_of, IsToldAs};
 use crate::answer::Answer;
 use crate::fault::SyncFault;
 use crate::standing::Standing;
-use crate::told_number::ToldNumber;
 use node_base::{PropValue, Refusal};
 use std::alloc::{AllocError, Global};
 
@@ -48,19 +47,6 @@ impl Standing {
             lock,
             head: self.head,
         })
-    }
-}
-
-impl ToldNumber {
-    /// The same once more.
-    pub fn copy(&self, alloc: Global) -> Result<ToldNumber, AllocError>
-        ensures { IfOk result (λ n. n ≡ self.now) }
-    {
-        match self {
-            ToldNumber::Missing => Ok(ToldNumber::Missing),
-            ToldNumber::Spelt(number) => Ok(ToldNumber::Spelt(*number)),
-            ToldNumber::Huge(digits) => Ok(ToldNumber::Huge(digits.copy(alloc)?)),
-        }
     }
 }
 
@@ -132,8 +118,8 @@ fn copy_refusal(alloc: Global, refusal: &Refusal) -> Result<Refusal, AllocError>
             copying,
             head,
         } => Ok(Refusal::Inconsistent {
-            merged: *merged,
-            copying: *copying,
+            merged: merged.copy(alloc)?,
+            copying: copying.copy(alloc)?,
             head: *head,
         }),
         Refusal::NotYetCopied(number) => Ok(Refusal::NotYetCopied(*number)),

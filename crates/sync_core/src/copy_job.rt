@@ -15,7 +15,7 @@ use crate::number::Number;
 use crate::shape::shape_of;
 use crate::standing::Standing;
 use crate::token::Token;
-use crate::told_number::ToldNumber;
+use crate::told_number::told_of;
 use node_base::{PropValue, Props, RevNo};
 
 /// Where a copying job is.
@@ -168,8 +168,8 @@ fn looked(standing: Standing) -> CopyPhase
     match shape_of(merged, copying, head) {
         Some(_) => CopyPhase::Who { merged, uuid },
         None => give_up(SyncFault::Inconsistent {
-            merged: ToldNumber::of(merged, merged_text),
-            copying: ToldNumber::of(copying, copying_text),
+            merged: told_of(merged, merged_text),
+            copying: told_of(copying, copying_text),
             head,
         }),
     }

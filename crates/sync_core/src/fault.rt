@@ -4,9 +4,8 @@ ghost use Rattle.node_base.specs.Refusals.{refusal_number};
 ghost use Rattle.sync_core.specs.Faults.{refusal_of, of_changes};
 
 use crate::lock_token::LockToken;
-use crate::told_number::ToldNumber;
 use dump_load::{ChangeFault, change_refusal};
-use node_base::{Refusal, RevNo};
+use node_base::{Refusal, RevNo, ToldNumber};
 use repo_core::{RepoFault, repo_refusal};
 use std::alloc::{AllocError, AllocFailed};
 use std::error::Error;
@@ -67,8 +66,8 @@ impl From<SyncFault> for Refusal {
                 copying,
                 head,
             } => Refusal::Inconsistent {
-                merged: merged.spelt(),
-                copying: copying.spelt(),
+                merged,
+                copying,
                 head,
             },
             SyncFault::NotYetCopied(number) => Refusal::NotYetCopied(number),

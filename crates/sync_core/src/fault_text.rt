@@ -6,8 +6,7 @@ ghost use Rattle.sync_core.specs.Faults.{fault_line, fault_text, tells_more};
 ghost use Rattle.sync_core.specs.declared.fault.SyncFault.TheVariants.{Inconsistent};
 
 use crate::fault::SyncFault;
-use crate::told_number::ToldNumber;
-use node_base::RevNo;
+use node_base::{RevNo, ToldNumber};
 use std::alloc::{AllocError, Global};
 use std::fmt;
 

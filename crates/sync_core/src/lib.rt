@@ -56,7 +56,7 @@ pub use standing::Standing;
 pub use state::{JobState, absorb, decide};
 pub use token::Token;
 pub use told_need::need_fault;
-pub use told_number::ToldNumber;
+pub use told_number::told_of;
 
 mod action;
 mod answer;

@@ -17,7 +17,7 @@ use crate::resting::Resting;
 use crate::shape::shape_of;
 use crate::standing::Standing;
 use crate::token::Token;
-use crate::told_number::ToldNumber;
+use crate::told_number::told_of;
 use dump_load::ChangeSet;
 use node_base::{PropValue, Props, RevNo, limits};
 
@@ -222,8 +222,8 @@ fn looked(known: Known, standing: Standing) -> SyncJob
         None => give_up(
             known,
             SyncFault::Inconsistent {
-                merged: ToldNumber::of(merged, merged_text),
-                copying: ToldNumber::of(copying, copying_text),
+                merged: told_of(merged, merged_text),
+                copying: told_of(copying, copying_text),
                 head,
             },
         ),
@@ -305,8 +305,8 @@ fn inconsistent(known: &Known) -> SyncFault
     ensures { result ≡ table.inconsistent known.now }
 {
     SyncFault::Inconsistent {
-        merged: ToldNumber::of(known.merged, None),
-        copying: ToldNumber::of(known.copying, None),
+        merged: told_of(known.merged, None),
+        copying: told_of(known.copying, None),
         head: known.head,
     }
 }

@@ -4,14 +4,14 @@ ghost use Rattle.sync_core.specs.Deeds.{Ends};
 ghost use Rattle.sync_core.specs.States.{deed_in};
 
 use dump_load::ChangeSet;
-use node_base::{PropName, PropValue, Props, Refusal, RevNo};
+use node_base::{PropName, PropValue, Props, Refusal, RevNo, ToldNumber};
 use repo_core::Repo;
 use std::alloc::Global;
 use std::process::Abort;
 use sync_core::{
     Action, Answer, Ending, JobState, KeptCall, LockToken, MirrorCall, Number, Numbers,
-    PlainMirror, Planned, Reply, Resting, Seat, Standing, SyncFault, Token, ToldNumber, absorb,
-    decide, holder_left, look, plan, shape_of,
+    PlainMirror, Planned, Reply, Resting, Seat, Standing, SyncFault, Token, absorb, decide,
+    holder_left, look, plan, shape_of,
 };
 use uuid::Uuid;
 
