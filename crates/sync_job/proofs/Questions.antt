@@ -10,7 +10,6 @@ use Rattle.sync_core.specs.Copies.{Outcome, outcome_of}
 use Rattle.sync_core.specs.Deeds.{Deed, Calls, AsksIdentity, AsksLatest, Fetches, FetchesProps, Ends}
 use Rattle.sync_core.specs.Mirror.{Call}
 use Rattle.sync_job.specs.declared.port_call.PortCall.{PortCall}
-use Rattle.sync_job.specs.declared.port_call.PortCall.TheVariants as port
 use Rattle.sync_job.specs.declared.report.Told.{Told}
 use Rattle.sync_job.specs.Kept.{refused_as}
 use Rattle.sync_job.specs.Questions.{Exchange, Identity, Latest, Fetch, FetchProps, LeadsBy, IsSaidOf, KeepsAnswers, deed_for, outcome_for, questions_by, questions_in}
@@ -69,10 +68,10 @@ pub answers_told : {M : Type 0} (Answered : M → M → List Exchange → Type 0
 answers_told Answered before now old new ts same adds = answers_unasked Answered before now old new (map Tells ts) same adds (tells_no_question ts)
 
 -- a tree is refused
-pub answers_tree : {M : Type 0} (Answered : M → M → List Exchange → Type 0) (before now : M) (n : ℕ) (kept : SyncFault) (old mid new : List PortCall) → now ≡ before → mid ≡ old → new ≡ mid ++ port.NoTree n kept ∷ [] → KeepsAnswers Answered before now (map spoken old) (map spoken new)
-answers_tree Answered before now n kept old mid new same stays adds =
-    answers_unasked Answered before now (map spoken old) (map spoken new) (NoTree n (refused_as kept) ∷ []) same
-    (ap (map spoken) (adds ∙ ap (λ xs. xs ++ port.NoTree n kept ∷ []) stays) ∙ map-append spoken old (port.NoTree n kept ∷ [])) refl
+pub answers_tree : {M : Type 0} (Answered : M → M → List Exchange → Type 0) (before now : M) (n : ℕ) (said : PortCall) (f : SyncFault) (old mid new : List PortCall) → now ≡ before → spoken said ≡ NoTree n (refused_as f) → mid ≡ old → new ≡ mid ++ said ∷ [] → KeepsAnswers Answered before now (map spoken old) (map spoken new)
+answers_tree Answered before now n said f old mid new same is stays adds =
+    answers_unasked Answered before now (map spoken old) (map spoken new) (NoTree n (refused_as f) ∷ []) same
+    (ap (map spoken) (adds ∙ ap (λ xs. xs ++ said ∷ []) stays) ∙ map-append spoken old (said ∷ []) ∙ ap (λ e. map spoken old ++ e ∷ []) is) refl
 
 -- a question to the master
 
@@ -82,18 +81,15 @@ one_question (Latest r) o = refl
 one_question (Fetch n trees r) o = refl
 one_question (FetchProps n r) o = refl
 
-kept_outcome : (x : Exchange) (answered kept told : Answer) → (outcome_of answered ≡ outcome_for x) ⊎ (answered ≡ answer.Refused OutOfMemory) → outcome_of kept ≡ outcome_of told → (told ≡ answered) ⊎ (told ≡ answer.Refused OutOfMemory)
-    → (outcome_of kept ≡ outcome_for x) ⊎ (outcome_of kept ≡ refused_as OutOfMemory)
-kept_outcome x answered kept told (inl a) same (inl e) = inl (same ∙ ap outcome_of e ∙ a)
-kept_outcome x answered kept told (inr a) same (inl e) = inr (same ∙ ap outcome_of (e ∙ a))
-kept_outcome x answered kept told h same (inr e) = inr (same ∙ ap outcome_of e)
+heard_outcome : (x : Exchange) (a : Answer) → (outcome_of a ≡ outcome_for x) ⊎ (a ≡ answer.Refused OutOfMemory) → (outcome_of a ≡ outcome_for x) ⊎ (outcome_of a ≡ refused_as OutOfMemory)
+heard_outcome x a (inl e) = inl e
+heard_outcome x a (inr e) = inr (ap outcome_of e)
 
-pub answers_question : {M : Type 0} (Answered : M → M → List Exchange → Type 0) (before mid now : M) (x : Exchange) (said : PortCall) (answered kept told : Answer) (old between new : List PortCall)
-    → mid ≡ before → ((first : M) (asked : List Exchange) → Answered mid first asked → Answered now first (asked ++ x ∷ [])) → spoken said ≡ Says (deed_for x) (outcome_of kept)
-    → (outcome_of answered ≡ outcome_for x) ⊎ (answered ≡ answer.Refused OutOfMemory) → outcome_of kept ≡ outcome_of told → (told ≡ answered) ⊎ (told ≡ answer.Refused OutOfMemory)
-    → between ≡ old → new ≡ between ++ said ∷ [] → KeepsAnswers Answered before now (map spoken old) (map spoken new)
-answers_question {M} Answered before mid now x said answered kept told old between new is_mid asks is out same either stays adds =
-    answers_more Answered before now (map spoken old) (map spoken new) (Says (deed_for x) (outcome_of kept) ∷ []) (x ∷ [])
+pub answers_question : {M : Type 0} (Answered : M → M → List Exchange → Type 0) (before mid now : M) (x : Exchange) (said : PortCall) (a : Answer) (old between new : List PortCall)
+    → mid ≡ before → ((first : M) (asked : List Exchange) → Answered mid first asked → Answered now first (asked ++ x ∷ [])) → spoken said ≡ Says (deed_for x) (outcome_of a)
+    → (outcome_of a ≡ outcome_for x) ⊎ (a ≡ answer.Refused OutOfMemory) → between ≡ old → new ≡ between ++ said ∷ [] → KeepsAnswers Answered before now (map spoken old) (map spoken new)
+answers_question {M} Answered before mid now x said a old between new is_mid asks is out stays adds =
+    answers_more Answered before now (map spoken old) (map spoken new) (Says (deed_for x) (outcome_of a) ∷ []) (x ∷ [])
     (ap (map spoken) (adds ∙ ap (λ xs. xs ++ said ∷ []) stays) ∙ map-append spoken old (said ∷ []) ∙ ap (λ e. map spoken old ++ e ∷ []) is)
     (λ first asked h. asks first asked (subst (λ (m : M). Answered m first asked) (sym is_mid) h))
-    (subst (λ xs. AllZip IsSaidOf (x ∷ []) xs) (sym (one_question x (outcome_of kept))) (record { deed = refl; outcome = kept_outcome x answered kept told out same either }, tt))
+    (subst (λ xs. AllZip IsSaidOf (x ∷ []) xs) (sym (one_question x (outcome_of a))) (record { deed = refl; outcome = heard_outcome x a out }, tt))

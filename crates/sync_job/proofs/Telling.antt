@@ -1,18 +1,14 @@
 -- What is said goes on telling what was asked.
-use Rattle.std.proofs.Common.{◌≡◌, ◌⊎◌, inl, inr, ℕ, List, [], ◌∷◌, ◌++◌, map, Result, refl, sym, ap, subst, ◌∙◌}
+use Rattle.std.proofs.Common.{◌≡◌, inl, inr, ℕ, List, [], ◌∷◌, ◌++◌, map, Result, refl, sym, ap, subst, ◌∙◌}
 use Rattle.std.specs.List.{AllByRecursion, AllZip}
 use Rattle.std.proofs.lemmas.List.{append-nil, append_assoc, map-append}
 use Rattle.sync_core.specs.declared.answer.Answer.{Answer}
-use Rattle.sync_core.specs.declared.answer.Answer.TheVariants as answer
 use Rattle.sync_core.specs.declared.fault.SyncFault.{SyncFault}
-use Rattle.sync_core.specs.declared.fault.SyncFault.TheVariants.{OutOfMemory}
-use Rattle.sync_core.specs.declared.kept_call.KeptCall.{KeptCall}
 use Rattle.sync_core.specs.declared.reply.Reply.{Reply as Given}
-use Rattle.sync_core.specs.Copies.{Outcome, call_in, outcome_of}
+use Rattle.sync_core.specs.Copies.{Outcome, outcome_of}
 use Rattle.sync_core.specs.Deeds.{Deed, Calls, AsksIdentity, AsksLatest, Fetches, FetchesProps, Ends}
 use Rattle.sync_core.specs.Mirror.{Call}
 use Rattle.sync_job.specs.declared.port_call.PortCall.{PortCall}
-use Rattle.sync_job.specs.declared.port_call.PortCall.TheVariants as port
 use Rattle.sync_job.specs.declared.report.Told.{Told}
 use Rattle.sync_job.specs.Asked.{Asked, asked_as}
 use Rattle.sync_job.specs.Fronts.{IsHeard}
@@ -91,29 +87,25 @@ question_is (Fetches n) o q = (refl, refl)
 question_is (FetchesProps n) o q = (refl, refl)
 question_is Ends o q = absurd q
 
-kept_other : (answered kept told : Answer) → IsOther (outcome_of answered) → outcome_of kept ≡ outcome_of told → (told ≡ answered) ⊎ (told ≡ answer.Refused OutOfMemory) → IsOther (outcome_of kept)
-kept_other answered kept told o same (inl e) = subst IsOther (sym (same ∙ ap outcome_of e)) o
-kept_other answered kept told o same (inr e) = subst IsOther (sym (same ∙ ap outcome_of e)) (inr refl)
-
-pub asks_master : {N : Type 0} (Asks : N → N → List Asked → Type 0) (m : N) (d : Deed) (said : PortCall) (answered kept told : Answer) (old mid new : List PortCall) → IsQuestion d → spoken said ≡ Says d (outcome_of kept)
-    → IsOther (outcome_of answered) → outcome_of kept ≡ outcome_of told → (told ≡ answered) ⊎ (told ≡ answer.Refused OutOfMemory) → mid ≡ old → new ≡ mid ++ said ∷ [] → KeepsTelling Asks m m (map spoken old) (map spoken new)
-asks_master Asks m d said answered kept told old mid new q is other same either stays adds =
-    let no = question_is d (outcome_of kept) q in
-    says_more Asks m m (map spoken old) (map spoken new) (Says d (outcome_of kept) ∷ []) []
+pub asks_master : {N : Type 0} (Asks : N → N → List Asked → Type 0) (m : N) (d : Deed) (said : PortCall) (o : Outcome) (old mid new : List PortCall) → IsQuestion d → spoken said ≡ Says d o
+    → IsOther o → mid ≡ old → new ≡ mid ++ said ∷ [] → KeepsTelling Asks m m (map spoken old) (map spoken new)
+asks_master Asks m d said o old mid new q is other stays adds =
+    let no = question_is d o q in
+    says_more Asks m m (map spoken old) (map spoken new) (Says d o ∷ []) []
     (ap (map spoken) (adds ∙ ap (λ xs. xs ++ said ∷ []) stays) ∙ map-append spoken old (said ∷ []) ∙ ap (λ e. map spoken old ++ e ∷ []) is)
     (λ first calls h. subst (Asks m first) (sym (append-nil calls)) h)
     (subst (λ xs. AllZip IsSaidAs [] (xs ++ [])) (sym no.0) tt)
-    (subst (λ xs. AllByRecursion IsOther (xs ++ [])) (sym no.1) (kept_other answered kept told other same either, tt))
+    (subst (λ xs. AllByRecursion IsOther (xs ++ [])) (sym no.1) (other, tt))
 
 -- a call of the mirror
-pub asks_call : {N : Type 0} (Asks : N → N → List Asked → Type 0) (before mid now : N) (kept : KeptCall) (first second : Answer) (call : Call) (result : Result Given SyncFault) (old : List Spoken) (items new : List PortCall)
-    → mid ≡ before → map spoken items ≡ old → call_in kept ≡ call → outcome_of first ≡ outcome_of second → IsHeard result second
-    → ((f : N) (calls : List Asked) → Asks mid f calls → Asks now f (calls ++ asked_as call result ∷ [])) → new ≡ items ++ port.Step kept first ∷ [] → KeepsTelling Asks before now old (map spoken new)
-asks_call Asks before mid now kept first second call result old items new same stays is outcome heard asks adds =
-    says_more Asks before now old (map spoken new) (Says (Calls (call_in kept)) (outcome_of first) ∷ []) (asked_as call result ∷ [])
-    (ap (map spoken) adds ∙ map-append spoken items (port.Step kept first ∷ []) ∙ ap (λ xs. xs ++ Says (Calls (call_in kept)) (outcome_of first) ∷ []) stays)
+pub asks_call : {N : Type 0} (Asks : N → N → List Asked → Type 0) (before mid now : N) (said : PortCall) (a : Answer) (call : Call) (result : Result Given SyncFault) (old : List Spoken) (items new : List PortCall)
+    → mid ≡ before → map spoken items ≡ old → spoken said ≡ Says (Calls call) (outcome_of a) → IsHeard result a
+    → ((f : N) (calls : List Asked) → Asks mid f calls → Asks now f (calls ++ asked_as call result ∷ [])) → new ≡ items ++ said ∷ [] → KeepsTelling Asks before now old (map spoken new)
+asks_call Asks before mid now said a call result old items new same stays is heard asks adds =
+    says_more Asks before now old (map spoken new) (Says (Calls call) (outcome_of a) ∷ []) (asked_as call result ∷ [])
+    (ap (map spoken) adds ∙ map-append spoken items (said ∷ []) ∙ ap (λ xs. xs ++ spoken said ∷ []) stays ∙ ap (λ e. old ++ e ∷ []) is)
     (λ f calls h. asks f calls (subst (λ x. Asks x f calls) (sym same) h))
-    (record { call = is; answer = second; heard = heard; outcome = outcome }, tt)
+    (record { call = refl; answer = a; heard = heard; outcome = refl }, tt)
     tt
 
 -- what is told of it
@@ -130,15 +122,11 @@ fault_other : (f : SyncFault) → IsTreeFault f → IsOther (refused_as f)
 fault_other f (inl e) = subst (λ x. IsOther (refused_as x)) (sym e) (inl refl)
 fault_other f (inr e) = subst (λ x. IsOther (refused_as x)) (sym e) (inr refl)
 
-tree_other : (f kept told : SyncFault) → IsTreeFault f → refused_as kept ≡ refused_as told → (told ≡ f) ⊎ (told ≡ OutOfMemory) → IsOther (refused_as kept)
-tree_other f kept told t same (inl e) = subst IsOther (sym (same ∙ ap refused_as e)) (fault_other f t)
-tree_other f kept told t same (inr e) = subst IsOther (sym (same ∙ ap refused_as e)) (inr refl)
-
-pub asks_tree : {N : Type 0} (Asks : N → N → List Asked → Type 0) (before now : N) (n : ℕ) (f kept told : SyncFault) (old mid new : List PortCall) → ((first : N) (calls : List Asked) → Asks before first calls → Asks now first calls)
-    → IsTreeFault f → refused_as kept ≡ refused_as told → (told ≡ f) ⊎ (told ≡ OutOfMemory) → mid ≡ old → new ≡ mid ++ port.NoTree n kept ∷ [] → KeepsTelling Asks before now (map spoken old) (map spoken new)
-asks_tree Asks before now n f kept told old mid new asks t same either stays adds =
-    says_more Asks before now (map spoken old) (map spoken new) (NoTree n (refused_as kept) ∷ []) []
-    (ap (map spoken) (adds ∙ ap (λ xs. xs ++ port.NoTree n kept ∷ []) stays) ∙ map-append spoken old (port.NoTree n kept ∷ []))
+pub asks_tree : {N : Type 0} (Asks : N → N → List Asked → Type 0) (before now : N) (n : ℕ) (said : PortCall) (f : SyncFault) (old mid new : List PortCall) → ((first : N) (calls : List Asked) → Asks before first calls → Asks now first calls)
+    → IsTreeFault f → spoken said ≡ NoTree n (refused_as f) → mid ≡ old → new ≡ mid ++ said ∷ [] → KeepsTelling Asks before now (map spoken old) (map spoken new)
+asks_tree Asks before now n said f old mid new asks t is stays adds =
+    says_more Asks before now (map spoken old) (map spoken new) (NoTree n (refused_as f) ∷ []) []
+    (ap (map spoken) (adds ∙ ap (λ xs. xs ++ said ∷ []) stays) ∙ map-append spoken old (said ∷ []) ∙ ap (λ e. map spoken old ++ e ∷ []) is)
     (λ first calls h. subst (Asks now first) (sym (append-nil calls)) (asks first calls h))
     tt
-    (tree_other f kept told t same either, tt)
+    (fault_other f t, tt)

@@ -10,8 +10,9 @@ use Rattle.sync_job.specs.declared.report.Told.{Told}
 use Rattle.sync_job.specs.declared.report.Told.TheVariants.{Committed, Copied}
 use Rattle.sync_job.specs.declared.port_call.PortCall.{PortCall}
 use Rattle.sync_job.specs.declared.port_call.PortCall.TheVariants as port
-use Rattle.sync_core.specs.Copies.{call_in, Outcome, outcome_of}
+use Rattle.sync_core.specs.Copies.{Outcome, outcome_of}
 use Rattle.sync_job.specs.Kept.{IsWrite, IsLook, refused_as}
+use Rattle.sync_job.specs.Seen.{call_seen}
 
 -- a call or a question with its answer, a tree that was refused, or what was told
 pub data Spoken : Type 0 where
@@ -20,12 +21,12 @@ pub data Spoken : Type 0 where
   Tells : (told : Told) → Spoken
 
 abbrev pub spoken : PortCall → Spoken
-spoken (port.Step call a) = Says (Calls (call_in call)) (outcome_of a)
-spoken (port.Identity a) = Says AsksIdentity (outcome_of a)
-spoken (port.Latest a) = Says AsksLatest (outcome_of a)
-spoken (port.Fetch n a) = Says (Fetches n) (outcome_of a)
-spoken (port.FetchProps n a) = Says (FetchesProps n) (outcome_of a)
-spoken (port.NoTree n f) = NoTree n (refused_as f)
+spoken (port.Step call a) = Says (Calls (call_seen call)) (outcome_of a.value)
+spoken (port.Identity a) = Says AsksIdentity (outcome_of a.value)
+spoken (port.Latest a) = Says AsksLatest (outcome_of a.value)
+spoken (port.Fetch n a) = Says (Fetches n) (outcome_of a.value)
+spoken (port.FetchProps n a) = Says (FetchesProps n) (outcome_of a.value)
+spoken (port.NoTree n f) = NoTree n (refused_as f.value)
 spoken (port.Told t) = Tells t
 
 -- what is told of an accepted call

@@ -24,7 +24,7 @@ pub use held::HeldMaster;
 pub use lent::LentMaster;
 pub use master::{Fetched, MasterFault, MasterPort};
 pub use mirror::MirrorPort;
-pub use port_call::PortCall;
+pub use port_call::{PortCall, SeenCall};
 pub use ports::JobPorts;
 pub use report::{Report, Told};
 pub use run::{run_copy_revprops, run_init, run_sync};

@@ -1,15 +1,15 @@
 //! The ports of a job, and all that is said through them.
 ghost use Rattle.std.specs.Prelude.{◌≡◌, ◌≢◌, ◌≤◌, ◌+◌, ℕ, List, ◌⊎◌, ◌++◌, ◌∷◌, [], IfOk, IfSome};
-ghost use Rattle.std.specs.Prelude.{OnOk, OnErr, IsErr, Err, None, Some, ◌-◌, length, map};
+ghost use Rattle.std.specs.Prelude.{OnOk, OnErr, IsErr, None, Some, ◌-◌, length, map};
 ghost use Rattle.sync_core.specs.declared.answer.Answer.TheVariants as answer_is;
 ghost use Rattle.sync_core.specs.declared.fault.SyncFault.TheVariants.{OutOfMemory as NoMemory};
-ghost use Rattle.sync_job.specs.Fronts.{WentAt, IsHeard, accepted_by, counted_by};
+ghost use Rattle.sync_job.specs.Fronts.{WentAt, accepted_by, counted_by};
 ghost use Rattle.sync_core.specs.Calls.{call_of};
 ghost use Rattle.sync_core.specs.Deeds.{Deed, Calls, AsksIdentity, AsksLatest, Fetches, FetchesProps, Ends, deed_of};
 ghost use Rattle.sync_core.specs.Measures.{CanBe};
 ghost use Rattle.sync_core.specs.Mirror.{ReleaseLock};
-ghost use Rattle.sync_core.specs.Copies.{call_in, outcome_of, Failed};
-ghost use Rattle.sync_job.specs.Kept.{refused_as};
+ghost use Rattle.sync_core.specs.Copies.{outcome_of, Failed};
+ghost use Rattle.sync_job.specs.Seen.{call_seen};
 ghost use Rattle.sync_job.specs.declared.report.Told.{Told as IsTold};
 ghost use Rattle.sync_job.specs.declared.report.Told.TheVariants.{Committed, Copied};
 ghost use Rattle.node_base.specs.Tree.{PathMap};
@@ -27,20 +27,20 @@ ghost use Rattle.sync_job.specs.Worlds.{IsAnswerAt, Happens, TakesTrees};
 
 use crate::master::{Fetched, MasterFault, MasterPort};
 use crate::mirror::MirrorPort;
-use crate::port_call::PortCall;
+use crate::port_call::{PortCall, SeenCall};
 use crate::report::{Report, Told};
 use crate::said_list::SaidList;
-use node_base::{PropValue, Props, Refusal, RevNo};
+use node_base::{PropValue, Props, RevNo};
 use path_tree::Tree;
 use std::alloc::{AllocError, Global};
-use sync_core::{Action, Answer, KeptCall, MirrorCall, Reply, SyncFault};
+use std::snapshot::Snapshot;
+use sync_core::{Action, Answer, MirrorCall, Reply, SyncFault};
 
 /// What a job speaks to: a master, a mirror, and who is told. It keeps what was said through it: each call of the
 /// mirror, each question to the master and each report with its answer, and each tree that was refused, in order.
 ///
 /// Room for a call, and for its report, is made before it: want of memory then leaves the ports alone. Room for the
-/// release of a lock is made with the lock and kept, so want of memory keeps no lock from being given back. Where an
-/// answer can't be kept for want of memory, it counts as 70.
+/// release of a lock is made with the lock and kept, so want of memory keeps no lock from being given back.
 ///
 /// The tree that comes with a fetched revision is kept for the call behind it: with that revision's commit the mirror
 /// takes it.
@@ -148,34 +148,38 @@ impl<M: MasterPort + Drop, N: MirrorPort + Drop, R: Report + Drop> JobPorts<M, N
             (N.seat (mirror_of self.new)) (Calls (call_of call.now)) result trees trees }
         ensures first { StillBegins N.begins_with (mirror_of self.old) (mirror_of self.new) }
     {
-        let kept = match self.room_for(alloc, call) {
+        let kept = match self.room_for(call) {
             Ok(kept) => kept,
             Err(_) => return Answer::Refused(SyncFault::OutOfMemory),
         };
         let tree = self.tree.take();
         match self.mirror.step(alloc, call, tree) {
             Ok(Reply::Done) => {
-                self.calls.push_reserved(PortCall::Step(kept, Answer::Done));
+                let answer = Answer::Done;
+                let said = Snapshot::of(&answer);
+                self.calls.push_reserved(PortCall::Step(kept, said));
                 self.tell(call);
-                Answer::Done
+                answer
             }
             Ok(Reply::Seen(standing)) => {
-                let (first, second) = twice(alloc, Answer::Seen(standing));
-                self.calls.push_reserved(PortCall::Step(kept, first));
-                second
+                let answer = Answer::Seen(standing);
+                let said = Snapshot::of(&answer);
+                self.calls.push_reserved(PortCall::Step(kept, said));
+                answer
             }
             Err(fault) => {
-                let (first, second) = refused_twice(alloc, fault);
-                self.calls.push_reserved(PortCall::Step(kept, first));
-                second
+                let answer = Answer::Refused(fault);
+                let said = Snapshot::of(&answer);
+                self.calls.push_reserved(PortCall::Step(kept, said));
+                answer
             }
         }
     }
 
     // Room for a call and its report, and for a release behind it, and the call as it is kept. A release has its room.
-    fn room_for(&mut self, alloc: Global, call: &MirrorCall<'_>) -> Result<KeptCall, AllocError>
+    fn room_for(&mut self, call: &MirrorCall<'_>) -> Result<SeenCall, AllocError>
         requires ready { IsReady (Calls (call_of call.now)) self.old }
-        ensures kept { IfOk result (λ k. call_in k ≡ call_of call.now) }
+        ensures kept { IfOk result (λ k. call_seen k ≡ call_of call.now) }
         ensures room { OnOk result (HasRoom self.new) }
         ensures more { OnOk result ((call_of call.now ≡ ReleaseLock)
             ⊎ (length (said_in self.new.calls) + 4 ≤ room_in self.new.calls)) }
@@ -188,10 +192,10 @@ impl<M: MasterPort + Drop, N: MirrorPort + Drop, R: Report + Drop> JobPorts<M, N
         ensures master { master_of self.new ≡ master_of self.old }
     {
         if let MirrorCall::ReleaseLock = call {
-            return Ok(KeptCall::ReleaseLock);
+            return Ok(SeenCall::ReleaseLock);
         }
         self.calls.reserve(4)?;
-        KeptCall::of(alloc, call)
+        Ok(SeenCall::of(call))
     }
 
     // Tells of an accepted call.
@@ -260,9 +264,9 @@ impl<M: MasterPort + Drop, N: MirrorPort + Drop, R: Report + Drop> JobPorts<M, N
             return Answer::Refused(SyncFault::OutOfMemory);
         }
         let answer = identity_answer(alloc, self.master.identity(alloc));
-        let (first, second) = twice(alloc, answer);
-        self.calls.push_reserved(PortCall::Identity(first));
-        second
+        let said = Snapshot::of(&answer);
+        self.calls.push_reserved(PortCall::Identity(said));
+        answer
     }
 
     fn latest(&mut self, alloc: Global) -> Answer
@@ -285,9 +289,9 @@ impl<M: MasterPort + Drop, N: MirrorPort + Drop, R: Report + Drop> JobPorts<M, N
             return Answer::Refused(SyncFault::OutOfMemory);
         }
         let answer = latest_answer(alloc, self.master.latest(alloc));
-        let (first, second) = twice(alloc, answer);
-        self.calls.push_reserved(PortCall::Latest(first));
-        second
+        let said = Snapshot::of(&answer);
+        self.calls.push_reserved(PortCall::Latest(said));
+        answer
     }
 
     fn fetch(&mut self, alloc: Global, number: RevNo, trees: &mut Vec<Tree>) -> Answer
@@ -307,7 +311,7 @@ impl<M: MasterPort + Drop, N: MirrorPort + Drop, R: Report + Drop> JobPorts<M, N
         ensures first { BeginsOn N.begins_with (mirror_of self.old) (mirror_of self.new) trees.old.items trees.new.items }
         ensures kept { IsMadeBy trees.new.items number result (tree_of self.new) }
     {
-        if let Some(refusal) = self.fill(alloc, number, trees) {
+        if let Some(refusal) = self.fill(number, trees) {
             return refusal;
         }
         if self.calls.reserve(3).is_err() {
@@ -319,10 +323,10 @@ impl<M: MasterPort + Drop, N: MirrorPort + Drop, R: Report + Drop> JobPorts<M, N
             self.master
                 .fetch(alloc, number, &trees.as_slice()[..number.index()]),
         );
-        let (first, second) = twice(alloc, answer);
-        self.calls.push_reserved(PortCall::Fetch(number, first));
+        let said = Snapshot::of(&answer);
+        self.calls.push_reserved(PortCall::Fetch(number, said));
         self.tree = tree;
-        second
+        answer
     }
 
     fn fetch_props(&mut self, alloc: Global, number: RevNo) -> Answer
@@ -346,14 +350,13 @@ impl<M: MasterPort + Drop, N: MirrorPort + Drop, R: Report + Drop> JobPorts<M, N
             return Answer::Refused(SyncFault::OutOfMemory);
         }
         let answer = map_answer(alloc, number, self.master.fetch_props(alloc, number));
-        let (first, second) = twice(alloc, answer);
-        self.calls
-            .push_reserved(PortCall::FetchProps(number, first));
-        second
+        let said = Snapshot::of(&answer);
+        self.calls.push_reserved(PortCall::FetchProps(number, said));
+        answer
     }
 
     // The mirror's trees before a revision, those that aren't at hand; or why not.
-    fn fill(&mut self, alloc: Global, number: RevNo, trees: &mut Vec<Tree>) -> Option<Answer>
+    fn fill(&mut self, number: RevNo, trees: &mut Vec<Tree>) -> Option<Answer>
         ensures room { HasRoom self.old → HasRoom self.new }
         ensures refusal { IfSome result (λ a. CanBe a × (a ≢ answer_is.Done)) }
         ensures none { result ≡ None → (calls_of self.new ≡ calls_of self.old) ×
@@ -373,7 +376,7 @@ impl<M: MasterPort + Drop, N: MirrorPort + Drop, R: Report + Drop> JobPorts<M, N
         ensures first { BeginsOn N.begins_with (mirror_of self.old) (mirror_of self.new) trees.old.items trees.new.items }
     {
         for i in trees.len()..number.index() {
-            let refusal = self.take_tree(alloc, number, RevNo::new(i as u16), trees);
+            let refusal = self.take_tree(number, RevNo::new(i as u16), trees);
             if refusal.is_some() {
                 return refusal;
             }
@@ -382,13 +385,7 @@ impl<M: MasterPort + Drop, N: MirrorPort + Drop, R: Report + Drop> JobPorts<M, N
     }
 
     // One tree of the mirror.
-    fn take_tree(
-        &mut self,
-        alloc: Global,
-        of: RevNo,
-        number: RevNo,
-        trees: &mut Vec<Tree>,
-    ) -> Option<Answer>
+    fn take_tree(&mut self, of: RevNo, number: RevNo, trees: &mut Vec<Tree>) -> Option<Answer>
         requires next { number ≡ length trees.old.items }
         ensures room { HasRoom self.old → HasRoom self.new }
         ensures refusal { IfSome result (λ a. CanBe a × (a ≢ answer_is.Done)) }
@@ -418,53 +415,11 @@ impl<M: MasterPort + Drop, N: MirrorPort + Drop, R: Report + Drop> JobPorts<M, N
                 None
             }
             Err(fault) => {
-                let (first, second) = fault_twice(alloc, fault);
-                self.calls.push_reserved(PortCall::NoTree(number, first));
-                Some(Answer::Refused(second))
+                let said = Snapshot::of(&fault);
+                self.calls.push_reserved(PortCall::NoTree(number, said));
+                Some(Answer::Refused(fault))
             }
         }
-    }
-}
-
-// The refusal of a mirror's call for the list and for the job. A call answered 31 counts with those that were
-// accepted: that is kept without memory.
-fn refused_twice(alloc: Global, fault: SyncFault) -> (Answer, Answer)
-    ensures refusal { CanBe result.1 × (result.1 ≢ answer_is.Done) }
-    ensures same { outcome_of result.0 ≡ outcome_of result.1 }
-    ensures heard { IsHeard (Err fault) result.1 }
-{
-    if fault.number() == 31 {
-        return (
-            Answer::Refused(SyncFault::Other(Refusal::DeviceFailed)),
-            Answer::Refused(SyncFault::Other(Refusal::DeviceFailed)),
-        );
-    }
-    twice(alloc, Answer::Refused(fault))
-}
-
-// The answer for the list and the one for the job. Where it can't be copied both are 70.
-fn twice(alloc: Global, answer: Answer) -> (Answer, Answer)
-    ensures can { CanBe answer → CanBe result.1 }
-    ensures same { outcome_of result.0 ≡ outcome_of result.1 }
-    ensures answer { (result.1 ≡ answer) ⊎ (result.1 ≡ answer_is.Refused NoMemory) }
-{
-    match answer.copy(alloc) {
-        Ok(kept) => (kept, answer),
-        Err(_) => (
-            Answer::Refused(SyncFault::OutOfMemory),
-            Answer::Refused(SyncFault::OutOfMemory),
-        ),
-    }
-}
-
-// The same of a fault.
-fn fault_twice(alloc: Global, fault: SyncFault) -> (SyncFault, SyncFault)
-    ensures same { refused_as result.0 ≡ refused_as result.1 }
-    ensures fault { (result.1 ≡ fault) ⊎ (result.1 ≡ NoMemory) }
-{
-    match fault.copy(alloc) {
-        Ok(kept) => (kept, fault),
-        Err(_) => (SyncFault::OutOfMemory, SyncFault::OutOfMemory),
     }
 }
 

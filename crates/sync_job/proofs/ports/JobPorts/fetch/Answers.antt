@@ -1,11 +1,12 @@
-use Rattle.std.proofs.Common.{ap, map, refl, subst, sym, take, ◌≡◌, ◌∙◌}
+use Rattle.std.proofs.Common.{ap, inl, map, refl, subst, sym, take, ◌≡◌, ◌∙◌}
 use Rattle.sync_core.specs.declared.answer.Answer.TheVariants as answer
 use Rattle.sync_core.specs.declared.fault.SyncFault.TheVariants as fault
+use Rattle.sync_core.specs.Copies.{outcome_of}
 use Rattle.sync_core.specs.Deeds.{Fetches}
 use Rattle.std.proofs.lemmas.List.{take-append-le}
 use Rattle.sync_job.specs.Made.{MakesOf}
 use Rattle.sync_job.specs.Masters.{IsTrue}
-use Rattle.sync_job.specs.Said.{spoken}
+use Rattle.sync_job.specs.Said.{Says, spoken}
 use Rattle.sync_job.specs.SaidLists.{said_in}
 use Rattle.sync_job.specs.Words.{calls_of, master_of, mirror_of}
 use Rattle.sync_job.specs.Worlds.{Refuses, IsAsked, IsAnswered}
@@ -38,11 +39,11 @@ pub returns-clause-happens : goal.returns-clause-happens
 returns-clause-happens g c =
     let sliced : take c.index.result c.as_slice.result.now ≡ take c.args.number c.fill.new.trees.items = λ i. take (c.index.ensures.number i) (c.as_slice.ensures.value i) in
     record {
-      master = subst (λ x. IsTrue (g.M.MasterPort.is_at x) (g.M.MasterPort.is_at c.fetch.new.self) (IsAnswered c.fill.new.trees.items (Fetches c.args.number) c.twice-first.result.1)) c.fill.ensures.master
-          (asks (g.M.MasterPort.is_at c.fill.new.self.master) (g.M.MasterPort.is_at c.fetch.new.self) c.fill.new.trees.items (Fetches c.args.number) c.revision_answer-answer.result.0 c.twice-first.result.1 c.fetch.ensures.set
+      master = subst (λ x. IsTrue (g.M.MasterPort.is_at x) (g.M.MasterPort.is_at c.fetch.new.self) (IsAnswered c.fill.new.trees.items (Fetches c.args.number) c.revision_answer-answer.result.0)) c.fill.ensures.master
+          (asks (g.M.MasterPort.is_at c.fill.new.self.master) (g.M.MasterPort.is_at c.fetch.new.self) c.fill.new.trees.items (Fetches c.args.number) c.revision_answer-answer.result.0 c.revision_answer-answer.result.0 c.fetch.ensures.set
           (λ o h f. c.revision_answer-answer.ensures.at o (h (sym (ap (λ ts. take c.args.number ts) f.1) ∙ take-append-le c.args.number c.fill.new.trees.items f.0 (c.fill.ensures.many c.in_default.is) ∙ sym sliced)))
-          c.twice-first.ensures.answer);
-      mirror = leaves (g.N.MirrorPort.stands (mirror_of c.args.self.now)) (g.N.MirrorPort.stands c.fill.new.self.mirror) (g.N.MirrorPort.seat (mirror_of c.args.self.now)) (Fetches c.args.number) c.twice-first.result.1 c.args.trees.now.items c.fill.new.trees.items (λ m. IsAsked tt refl) refl refl c.fill.ensures.trees.there;
+          (inl refl));
+      mirror = leaves (g.N.MirrorPort.stands (mirror_of c.args.self.now)) (g.N.MirrorPort.stands c.fill.new.self.mirror) (g.N.MirrorPort.seat (mirror_of c.args.self.now)) (Fetches c.args.number) c.revision_answer-answer.result.0 c.args.trees.now.items c.fill.new.trees.items (λ m. IsAsked tt refl) refl refl c.fill.ensures.trees.there;
       seat = c.fill.ensures.trees.seat;
     }
 
@@ -55,15 +56,15 @@ pub returns-clause-asked : goal.returns-clause-asked
 returns-clause-asked g c =
     says_on g.N.MirrorPort.asked (mirror_of c.args.self.now) c.fill.new.self.mirror c.fill.new.self.mirror (calls_of c.args.self.now) (calls_of c.fill.new.self) _
     c.fill.ensures.asked
-    (asks_master g.N.MirrorPort.asked c.fill.new.self.mirror (Fetches c.args.number) _ c.revision_answer-answer.result.0 c.twice-first.result.0 c.twice-first.result.1 (said_in c.fill.new.self.calls) (said_in c.reserve.new.self) (said_in c.push_reserved.new.self)
-    tt refl c.revision_answer-answer.ensures.other c.twice-first.ensures.same c.twice-first.ensures.answer c.reserve.ensures.items c.push_reserved.ensures.items)
+    (asks_master g.N.MirrorPort.asked c.fill.new.self.mirror (Fetches c.args.number) _ (outcome_of c.revision_answer-answer.result.0) (said_in c.fill.new.self.calls) (said_in c.reserve.new.self) (said_in c.push_reserved.new.self)
+    tt (ap (λ a. Says (Fetches c.args.number) (outcome_of a)) c.of-said.ensures) c.revision_answer-answer.ensures.other c.reserve.ensures.items c.push_reserved.ensures.items)
 
 pub returns-clause-kept : goal.returns-clause-kept
 returns-clause-kept g c =
-    made_by c.fill.new.trees.items c.args.number c.revision_answer-answer.result.0 c.twice-first.result.1 c.revision_answer-answer.result.1
+    made_by c.fill.new.trees.items c.args.number c.revision_answer-answer.result.0 c.revision_answer-answer.result.0 c.revision_answer-answer.result.1
     (c.fill.ensures.many c.in_default.is)
     (subst (λ ts. MakesOf ts c.revision_answer-answer.result.0 c.revision_answer-answer.result.1) (λ i. take (c.index.ensures.number i) (c.as_slice.ensures.value i)) (c.revision_answer-answer.ensures.tree _ c.fetch.ensures.tree))
-    c.twice-first.ensures.answer
+    (inl refl)
 
 pub returns-then-is_err-clause-answered : goal.returns-then-is_err-clause-answered
 returns-then-is_err-clause-answered g c =
@@ -74,5 +75,5 @@ pub returns-clause-answered : goal.returns-clause-answered
 returns-clause-answered g c =
     answers_on g.M.MasterPort.answered (master_of c.args.self.now) c.fill.new.self.master c.fetch.new.self (calls_of c.args.self.now) (calls_of c.fill.new.self) _
     c.fill.ensures.answered
-    (answers_question g.M.MasterPort.answered c.fill.new.self.master c.fill.new.self.master c.fetch.new.self (Fetch c.args.number (take c.index.result c.as_slice.result.now) c.fetch.result) _ c.revision_answer-answer.result.0 c.twice-first.result.0 c.twice-first.result.1 (said_in c.fill.new.self.calls) (said_in c.reserve.new.self) (said_in c.push_reserved.new.self)
-    refl c.fetch.ensures.answered refl (c.revision_answer-answer.ensures.told (take c.index.result c.as_slice.result.now)) c.twice-first.ensures.same c.twice-first.ensures.answer c.reserve.ensures.items c.push_reserved.ensures.items)
+    (answers_question g.M.MasterPort.answered c.fill.new.self.master c.fill.new.self.master c.fetch.new.self (Fetch c.args.number (take c.index.result c.as_slice.result.now) c.fetch.result) _ c.revision_answer-answer.result.0 (said_in c.fill.new.self.calls) (said_in c.reserve.new.self) (said_in c.push_reserved.new.self)
+    refl c.fetch.ensures.answered (ap (λ a. Says (Fetches c.args.number) (outcome_of a)) c.of-said.ensures) (c.revision_answer-answer.ensures.told (take c.index.result c.as_slice.result.now)) c.reserve.ensures.items c.push_reserved.ensures.items)

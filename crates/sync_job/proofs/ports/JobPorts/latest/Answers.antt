@@ -1,6 +1,7 @@
 use Rattle.std.proofs.Common.{ap, map, refl}
+use Rattle.sync_core.specs.Copies.{outcome_of}
 use Rattle.sync_core.specs.Deeds.{AsksLatest}
-use Rattle.sync_job.specs.Said.{spoken}
+use Rattle.sync_job.specs.Said.{Says, spoken}
 use Rattle.sync_job.specs.SaidLists.{said_in}
 use Rattle.sync_job.specs.Words.{calls_of, master_of, mirror_of}
 use Rattle.sync_job.proofs.Telling.{asks_master, says_none}
@@ -13,13 +14,13 @@ returns-then-is_err-clause-asked g c = says_none g.N.MirrorPort.asked (mirror_of
 
 pub returns-clause-asked : goal.returns-clause-asked
 returns-clause-asked g c =
-    asks_master g.N.MirrorPort.asked (mirror_of c.args.self.now) AsksLatest _ c.latest_answer-answer.result c.twice-first.result.0 c.twice-first.result.1 (said_in c.args.self.now.calls) (said_in c.reserve.new.self) (said_in c.push_reserved.new.self)
-    tt refl c.latest_answer-answer.ensures.other c.twice-first.ensures.same c.twice-first.ensures.answer c.reserve.ensures.items c.push_reserved.ensures.items
+    asks_master g.N.MirrorPort.asked (mirror_of c.args.self.now) AsksLatest _ (outcome_of c.latest_answer-answer.result) (said_in c.args.self.now.calls) (said_in c.reserve.new.self) (said_in c.push_reserved.new.self)
+    tt (ap (λ a. Says AsksLatest (outcome_of a)) c.of-said.ensures) c.latest_answer-answer.ensures.other c.reserve.ensures.items c.push_reserved.ensures.items
 
 pub returns-then-is_err-clause-answered : goal.returns-then-is_err-clause-answered
 returns-then-is_err-clause-answered g c = answers_none g.M.MasterPort.answered (master_of c.args.self.now) (master_of c.args.self.now) (calls_of c.args.self.now) _ refl (ap (map spoken) c.reserve.ensures.items)
 
 pub returns-clause-answered : goal.returns-clause-answered
 returns-clause-answered g c =
-    answers_question g.M.MasterPort.answered (master_of c.args.self.now) (master_of c.args.self.now) c.latest.new.self (Latest c.latest.result) _ c.latest_answer-answer.result c.twice-first.result.0 c.twice-first.result.1 (said_in c.args.self.now.calls) (said_in c.reserve.new.self) (said_in c.push_reserved.new.self)
-    refl c.latest.ensures.answered refl c.latest_answer-answer.ensures.told c.twice-first.ensures.same c.twice-first.ensures.answer c.reserve.ensures.items c.push_reserved.ensures.items
+    answers_question g.M.MasterPort.answered (master_of c.args.self.now) (master_of c.args.self.now) c.latest.new.self (Latest c.latest.result) _ c.latest_answer-answer.result (said_in c.args.self.now.calls) (said_in c.reserve.new.self) (said_in c.push_reserved.new.self)
+    refl c.latest.ensures.answered (ap (λ a. Says AsksLatest (outcome_of a)) c.of-said.ensures) c.latest_answer-answer.ensures.told c.reserve.ensures.items c.push_reserved.ensures.items
