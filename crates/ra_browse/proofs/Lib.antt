@@ -9,3 +9,4 @@ pub mod Fronts
 pub mod Located
 pub mod Logged
 pub mod LogFronts
+pub mod KeptBack

@@ -1,7 +1,8 @@
 //! Which revisions changed some paths.
 
 ghost use Rattle.std.specs.Prelude.{◌≡◌, ◌++◌, ◌∷◌, suc, take, map, [], None, Some, IfOk, IfErr, if◌then◌else◌};
-ghost use Rattle.std.specs.Io.KnownBytes.{Appends};
+ghost use Rattle.std.specs.Io.KnownBytes.{Appends, Keeps};
+ghost use Rattle.std.specs.Io.Buffered.{writer_contents};
 ghost use Rattle.repo_core.specs.Repository.{Repository, trees_of};
 ghost use Rattle.ra_item.specs.Items.{spell};
 ghost use Rattle.ra_wire.specs.Replies.{done};
@@ -32,7 +33,10 @@ use ra_log::{LogRows, write_entries};
 use ra_serve::{PortFault, RepoPort, ServeFault};
 use ra_wire::reply_writer::write_done;
 use std::alloc::Global;
-use std::io::Write;
+use std::io::{BufWriter, Write};
+
+// How many bytes of a log are kept back at most until they are written.
+const ROOM: usize = 16_384;
 
 /// The places of which a log is told, its range, and what it looks at.
 #[derive(Drop)]
@@ -318,8 +322,39 @@ fn tell_sought<W: Write + Drop>(
     }
 }
 
-// Tells the entries of these revisions, and that they are all.
+// Tells the entries of these revisions, and that they are all. Of their many short pieces so much is kept back.
 fn tell_entries<W: Write + Drop>(
+    alloc: Global,
+    order: &LogOrder,
+    rows: &LogRows,
+    numbers: &[u16],
+    out: W,
+) -> Result<W, ServeFault>
+    ensures { IfOk result (λ w. Appends (W.contents out) (W.contents w)
+        ((entries_told (log_as order.now) rows.now.sets.items rows.now.props.items rows.now.trees.items numbers.now
+        ++ spell end_item) ++ spell done)) }
+{
+    let Ok(kept) = BufWriter::with_capacity(alloc, ROOM, out) else {
+        return Err(ServeFault::OutOfMemory);
+    };
+    match tell_pieces(alloc, order, rows, numbers, kept) {
+        Ok(kept) => written(kept),
+        Err(fault) => Err(fault),
+    }
+}
+
+// Writes what is kept back.
+fn written<W: Write + Drop>(kept: BufWriter<W>) -> Result<W, ServeFault>
+    ensures { IfOk result (λ w. Keeps (writer_contents W.contents kept) (W.contents w)) }
+{
+    match kept.into_inner() {
+        Ok(out) => Ok(out),
+        Err(_) => Err(ServeFault::WriteFailed),
+    }
+}
+
+// Tells the same piece by piece.
+fn tell_pieces<W: Write + Drop>(
     alloc: Global,
     order: &LogOrder,
     rows: &LogRows,

@@ -11,7 +11,7 @@ ghost use Rattle.ra_wire.specs.Replies.{list, string, property, node_kind_word};
 ghost use Rattle.browse_wire.specs.Told.{absolute};
 
 use node_base::{NodeKind, NodePath};
-use ra_item::writer::{write_close, write_open, write_text, write_word};
+use ra_item::writer::{write_close, write_open, write_text};
 use std::io;
 use std::io::Write;
 
@@ -19,8 +19,7 @@ use std::io::Write;
 pub fn write_none<W: Write>(out: &mut W) -> io::Result<()>
     ensures { OnOk result (Appends (W.contents out.old) (W.contents out.new) (spell (list []))) }
 {
-    write_open(out)?;
-    write_close(out)
+    out.write_all(b"( ) ")
 }
 
 /// Brackets that are empty or hold a string.
@@ -53,9 +52,9 @@ pub fn write_truth<W: Write>(out: &mut W, b: bool) -> io::Result<()>
     ensures { OnOk result (Appends (W.contents out.old) (W.contents out.new) (spell (Word (truth_word b)))) }
 {
     if b {
-        write_word(out, b"true")
+        out.write_all(b"true ")
     } else {
-        write_word(out, b"false")
+        out.write_all(b"false ")
     }
 }
 

@@ -8,7 +8,7 @@ use std::io;
 use std::io::{ErrorKind, Write};
 use std::rt::HostRuntime;
 
-/// A writer that takes so many bytes.
+/// A writer that takes so many bytes, and that nobody may flush.
 #[derive(Drop)]
 struct Room {
     left: usize,
@@ -25,7 +25,7 @@ impl Write for Room {
     }
 
     fn flush(&mut self) -> io::Result<()> {
-        Ok(())
+        Err(io::Error::from(ErrorKind::BrokenPipe))
     }
 }
 

@@ -11,7 +11,7 @@ use Rattle.std.specs.FinMap as finite
 use Rattle.node_base.specs.Path.{Name, Path}
 use Rattle.node_base.specs.declared.node.Node.{Node}
 use Rattle.node_base.proofs.PathLemmas.{same_path_itself}
-use Rattle.delta_editor.specs.Calls.{Adds}
+use Rattle.delta_editor.specs.Calls.{Adds, StaysShown}
 use Rattle.delta_editor.specs.declared.call.Call.{Call}
 use Rattle.delta_editor.specs.declared.call.Call.TheVariants as call
 use Rattle.std.specs.Io.KnownBytes.{Appends}
@@ -39,6 +39,11 @@ pub carried : {T : Type 0} (contents : T → Option (List ℕ)) (old new : WireE
     → (calls : List Call) → Shows contents old (all_updated k calls) → Shows contents new (all_updated k (calls ++ c ∷ []))
 carried contents old new k c h calls s =
     subst (Shows contents new) (sym (all_joined k calls (c ∷ []) ∙ ap (λ l. all_updated k calls ++ l) (append-nil (updated k c)))) (h (all_updated k calls) s)
+
+-- what is discarded adds nothing
+pub carried_no_more : {T : Type 0} (contents : T → Option (List ℕ)) (old new : WireEditor T) (k : Facts) → StaysShown (Shows contents) old new
+    → (calls : List Call) → Shows contents old (all_updated k calls) → Shows contents new (all_updated k calls)
+carried_no_more contents old new k h calls s = h (all_updated k calls) s
 
 -- two steps are one
 pub both_added : {T : Type 0} (shows : T → List Call → Type 0) (one two three : T) (xs ys : List Call) → Adds shows one two xs → Adds shows two three ys → Adds shows one three (xs ++ ys)

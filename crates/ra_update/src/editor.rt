@@ -232,6 +232,11 @@ impl<'a, W: Write + Drop> Editor for UpdateEditor<'a, W> {
 
     ghost refuses = { λ begun calls c e. e ≡ PeerFailed };
 
+    // It keeps neither what it is let go of nor that it is given up.
+    ghost lets_go = { λ e paths. Unit {0} };
+
+    ghost given_up = { λ e. Unit {0} };
+
     fn target(&mut self, _rev: RevNo) -> Result<(), EditorFault> {
         self.inner.target(self.facts.number)
     }

@@ -9,6 +9,7 @@ mod editor;
 mod facts;
 mod names;
 mod send;
+mod unflushed;
 mod update;
 
 pub use facts::Facts;

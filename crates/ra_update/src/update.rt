@@ -11,6 +11,7 @@ ghost use Rattle.ra_update.specs.Updates.{IsUpdate, MayStop};
 
 use crate::facts::Facts;
 use crate::send::{ended, send_changes};
+use crate::unflushed::Unflushed;
 use delta_editor::EditorFault;
 use dump_load::Change;
 use path_tree::Tree;
@@ -39,7 +40,7 @@ pub fn send_update<W: Write + Drop>(
     send_over(alloc, reported, changes.as_slice(), facts, out)
 }
 
-// Writes the edit of changes of a tree.
+// Writes the edit of changes of a tree. Its commands aren't handed on one by one, but as the writer does it.
 fn send_over<W: Write + Drop>(
     alloc: Global,
     reported: &Tree,
@@ -56,8 +57,9 @@ fn send_over<W: Write + Drop>(
     let trees = alone(alloc, reported)?;
     // For the proof: the root of a tree is a directory.
     has_root(trees.as_slice());
-    let out = send_changes(alloc, trees.as_slice(), changes, facts, out)?;
-    ended(out)
+    let unflushed = Unflushed { inner: out };
+    let sent = send_changes(alloc, trees.as_slice(), changes, facts, unflushed)?;
+    ended(sent.inner)
 }
 
 // The tree alone.

@@ -1,5 +1,5 @@
 //! Differences of two trees as changes.
-ghost use Rattle.std.specs.Prelude.{◌≡◌, ◌++◌, ◌∷◌, [], true, Some, None, map, IfOk, if◌then◌else◌};
+ghost use Rattle.std.specs.Prelude.{◌≡◌, ◌++◌, ◌∷◌, [], true, Some, None, map, IfOk, OnOk, if◌then◌else◌};
 ghost use Rattle.std.specs.List.{AllByRecursion};
 ghost use Rattle.node_base.specs.Limits.{fits};
 ghost use Rattle.path_tree.specs.Listed.{shown_names};
@@ -9,6 +9,7 @@ ghost use Rattle.tree_changes.specs.Changes.{bare, brought, changed, change_of, 
 use dump_load::{Change, share_text};
 use node_base::{Action, Node, NodeName, NodePath, PathFault, Props, Text};
 use std::alloc::{AllocError, Global};
+use std::cmp::Ordering;
 use tree_reports::{Change as Told, Difference, Parts};
 
 /// The changes that differences are. Properties and texts are shared with the trees.
@@ -18,18 +19,23 @@ pub fn changes_of(alloc: Global, differences: &[Difference<'_>]) -> Result<Vec<C
     ensures { IfOk result (λ cs. cs.items ≡ map change_of (shown differences.now)) }
 {
     let mut changes = Vec::with_capacity(alloc, differences.len())?;
+    let mut folder = NodePath::root(alloc);
     for difference in differences {
-        changes.push(change_of(alloc, difference)?)?;
+        changes.push(change_of(alloc, &mut folder, difference)?)?;
     }
     Ok(changes)
 }
 
-// The change that a difference is.
-fn change_of(alloc: Global, difference: &Difference<'_>) -> Result<Change, AllocError>
+// The change that a difference is. The folder is that of the difference before, and then its own.
+fn change_of(
+    alloc: Global,
+    folder: &mut NodePath,
+    difference: &Difference<'_>,
+) -> Result<Change, AllocError>
     requires { fits (shown_names difference.now.path.items) ≡ true }
     ensures { IfOk result (λ c. c ≡ change_of (shown_names difference.now.path.items, told_of difference.now.change)) }
 {
-    let path = path_of(alloc, difference.path.as_slice())?;
+    let path = path_of(alloc, folder, difference.path.as_slice())?;
     match &difference.change {
         Told::Removed => Ok(bare(path, Action::Delete)),
         Told::Added(node) => brought(path, Action::Add, node),
@@ -102,12 +108,50 @@ fn text_given(node: &Node, differ: bool) -> Result<Option<Text>, AllocError>
     Ok(None)
 }
 
-// The path of names.
-fn path_of(alloc: Global, names: &[&NodeName]) -> Result<NodePath, AllocError>
+// The path of names, in a folder that most often is the one before.
+#[tactic(auto, using(crate::proofs::Paths::above_fits, crate::proofs::Paths::last_shown))]
+fn path_of(
+    alloc: Global,
+    folder: &mut NodePath,
+    names: &[&NodeName],
+) -> Result<NodePath, AllocError>
     requires { fits (shown_names names.now) ≡ true }
     ensures { IfOk result (λ p. p ≡ shown_names names.now) }
 {
-    joined(alloc, NodePath::root(alloc), names)
+    let Some((last, above)) = names.split_last() else {
+        return Ok(NodePath::root(alloc));
+    };
+    enter(alloc, folder, above)?;
+    child(alloc, folder, last)
+}
+
+// Makes a folder the path of names, where it isn't.
+fn enter(alloc: Global, folder: &mut NodePath, names: &[&NodeName]) -> Result<(), AllocError>
+    requires { fits (shown_names names.now) ≡ true }
+    ensures { OnOk result (folder.new ≡ shown_names names.now) }
+{
+    if has_names(folder.names(), names) {
+        return Ok(());
+    }
+    *folder = joined(alloc, NodePath::root(alloc), names)?;
+    Ok(())
+}
+
+// Whether a path has these names and no others.
+#[tactic(auto, using(crate::proofs::Paths::names_match))]
+fn has_names(path: &[NodeName], names: &[&NodeName]) -> bool
+    ensures { result ≡ true → path.now ≡ shown_names names.now }
+{
+    let Some((first, path)) = path.split_first() else {
+        return names.is_empty();
+    };
+    let Some((name, names)) = names.split_first() else {
+        return false;
+    };
+    if first.compare(name) == Ordering::Equal {
+        return has_names(path, names);
+    }
+    false
 }
 
 // A path with names behind it.
