@@ -1,10 +1,12 @@
 pub mod Behind
+pub mod Crowded
 pub mod Due
 pub mod Feeding
 pub mod Groups
 pub mod Identities
 pub mod Listed
 pub mod Makers
+pub mod Paths
 pub mod Spelled
 pub mod Streaming
 pub mod Telling

@@ -6,15 +6,21 @@ use Rattle.dump_text.specs.declared.record.RevRecord.{RevRecord}
 use Rattle.fleet_engines.specs.Revisions.{Rev, Told}
 use Rattle.fleet_engines.specs.Runs.{Held}
 use Rattle.fleet_engines.specs.Takers.{Place}
+use Rattle.fleet_engines.specs.Nodes.{nodes_of}
 use Rattle.fleet_engines.specs.declared.history.History.{History}
 use Rattle.fleet_engines.specs.declared.open_revision.OpenRevision.{OpenRevision}
+use Rattle.fleet_engines.specs.declared.open_revision.ReadRevision.{ReadRevision}
 
 abbrev pub rev_of : RevRecord → Rev
 rev_of r = record { number = r.number; props = r.props; nodes = r.nodes.items }
 
+-- with all the node records that came
+abbrev pub rev_read : ReadRevision → Rev
+rev_read r = record { number = r.number; props = r.props; nodes = nodes_of r.nodes }
+
 -- the revision that is read
 abbrev pub open_in : OpenRevision → Option Rev
-open_in o = option_map rev_of o.revision
+open_in o = option_map rev_read o.revision
 
 abbrev pub told_of : History → Told
 told_of h = record { identity = h.uuid; zero = h.zero; trees = h.trees.items; last = open_in h.last }

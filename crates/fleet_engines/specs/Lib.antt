@@ -1,6 +1,8 @@
+pub mod FirstPaths
 pub mod Grouping
 pub mod Histories
 pub mod Listing
+pub mod Nodes
 pub mod Pieces
 pub mod Revisions
 pub mod Runs

@@ -5,13 +5,13 @@ ghost use Rattle.std.specs.List.{slice_get};
 ghost use Rattle.dump_load.specs.declared.change.Change.{Change};
 ghost use Rattle.dump_text.specs.Canon.{now_of};
 ghost use Rattle.node_base.specs.Tree.{PathMap};
-ghost use Rattle.fleet_engines.specs.Histories.{told_of, revs_of, rev_of};
+ghost use Rattle.fleet_engines.specs.Histories.{told_of, revs_of, rev_of, rev_read};
 ghost use Rattle.fleet_engines.specs.Revisions.{by_set, is_zero, root_alone, untold, Makes, IsUnfit};
 ghost use Rattle.fleet_engines.specs.Revisions.{Closes, CantClose, Takes, CantTake};
 ghost use Rattle.fleet_engines.specs.Runs.{has_begun};
 
-use crate::open_revision::OpenRevision;
-use dump_load::{Applied, change_refusal, load_revision};
+use crate::open_revision::{OpenRevision, ReadRevision};
+use dump_load::{Applied, change_refusal};
 use dump_text::{DumpRecord, RevRecord};
 use node_base::{Props, Refusal, RevNo};
 use path_tree::Tree;
@@ -30,8 +30,8 @@ pub struct History {
 }
 
 // Whether it is revision 0, before any other.
-fn is_zero(trees: &[Tree], revision: &RevRecord) -> bool
-    ensures { result ≡ is_zero trees.now (rev_of revision.now) }
+fn is_zero(trees: &[Tree], revision: &ReadRevision) -> bool
+    ensures { result ≡ is_zero trees.now (rev_read revision.now) }
 {
     trees.len() == 1 && revision.number == RevNo::ZERO
 }
@@ -109,15 +109,15 @@ impl History {
     }
 
     // One tree more. The records come back in their canonical order.
-    fn add_revision(&mut self, revision: RevRecord) -> Result<RevRecord, Refusal>
+    fn add_revision(&mut self, revision: ReadRevision) -> Result<RevRecord, Refusal>
         ensures made { IfOk result (λ out. (set : List Change) × (tree : PathMap)
-            × Makes self.old.trees.items (rev_of revision) set tree × (rev_of out ≡ by_set (rev_of revision) set)
+            × Makes self.old.trees.items (rev_read revision) set tree × (rev_of out ≡ by_set (rev_read revision) set)
             × (told_of self.new ≡ record (told_of self.old) { trees = self.old.trees.items ++ tree ∷ [] })) }
         ensures refused { IfErr result (λ e. (e ≡ Refusal.OutOfMemory)
-            ⊎ IsUnfit self.old.trees.items (rev_of revision) e) }
+            ⊎ IsUnfit self.old.trees.items (rev_read revision) e) }
         ensures no_peer { IfErr result (λ e. e ≡ Refusal.PeerFailed → ⊥) }
     {
-        let RevRecord {
+        let ReadRevision {
             number,
             props,
             nodes,
@@ -125,7 +125,7 @@ impl History {
         if number.index() != self.trees.len() {
             return Err(Refusal::WrongNumber);
         }
-        let Applied { set, tree } = match load_revision(self.alloc, &self.trees, number, nodes) {
+        let Applied { set, tree } = match nodes.load(&self.trees, number) {
             Ok(loaded) => loaded,
             Err(fault) => return Err(change_refusal(fault)),
         };

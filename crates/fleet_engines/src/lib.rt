@@ -6,8 +6,9 @@ ghost use Rattle.fleet_engines.specs.Pieces.{RecordsDontMatter};
 
 pub use commands::{run_canon, run_list};
 pub use line::write_line;
-pub use open_revision::OpenRevision;
+pub use open_revision::{OpenRevision, ReadRevision};
 pub use product::Product;
+pub use revision_nodes::{NODES, RevisionNodes};
 pub use stream::{hand_on, read, write, write_count, write_parts};
 pub use taker::Taker;
 pub use whole_stream::read_stream;
@@ -20,6 +21,7 @@ mod lines;
 mod listing;
 mod open_revision;
 mod product;
+mod revision_nodes;
 mod stream;
 mod taker;
 mod whole_stream;

@@ -2,12 +2,12 @@
 ghost use Rattle.std.specs.Prelude.{◌≡◌, ◌++◌, [], IfErr, OnOk, OnErr};
 ghost use Rattle.std.specs.Io.KnownBytes.{Appends};
 ghost use Rattle.byte_streams.specs.Causes.{Rose};
-ghost use Rattle.node_base.specs.Refusals.{fault_line, inconsistent_text, number_or_dash, refusal_text, shown_token};
+ghost use Rattle.node_base.specs.Refusals.{fault_line, inconsistent_text, refusal_text, shown_token, told_text};
 ghost use Rattle.fleet_engines.specs.Runs.{Counted};
 
 use crate::stream::{write, write_count, write_parts};
 use byte_streams::Output;
-use node_base::{Refusal, RevNo, shown_byte};
+use node_base::{Refusal, RevNo, ToldNumber, shown_byte};
 
 // Writes a token as it is printed.
 fn write_shown<O: Output>(output: &mut O, token: &[u8]) -> Result<(), Refusal>
@@ -40,40 +40,41 @@ fn write_token<O: Output>(
     write(output, after)
 }
 
-// Writes a number, or `-` where there is none, between two texts.
-fn write_count_or_dash<O: Output>(
+// Writes what is told of a number between two texts.
+fn write_told<O: Output>(
     output: &mut O,
     before: &[u8],
-    number: Option<u64>,
+    number: &ToldNumber,
     after: &[u8],
 ) -> Result<(), Refusal>
     ensures ok { OnOk result (Appends (O.contents output.old) (O.contents output.new)
-        (before.now ++ (number_or_dash number ++ after.now))) }
+        (before.now ++ (told_text number.now ++ after.now))) }
     ensures peer { Counted result (O.failures output.old) (O.failures output.new) }
     ensures failed { OnErr result (Rose (O.failures output.old) (O.failures output.new)) }
     ensures only_peer { IfErr result (λ e. e ≡ Refusal.PeerFailed) }
 {
     match number {
-        Some(number) => write_count(output, before, number, after),
-        None => write_parts(output, before, b"-", after),
+        ToldNumber::Missing => write_parts(output, before, b"-", after),
+        ToldNumber::Spelt(number) => write_count(output, before, *number, after),
+        ToldNumber::Huge(digits) => write_token(output, before, digits.as_slice(), after),
     }
 }
 
 // Writes that a mirror's properties of its synchronisation fit no shape in which it rests.
 fn write_inconsistent<O: Output>(
     output: &mut O,
-    merged: Option<u64>,
-    copying: Option<u64>,
+    merged: &ToldNumber,
+    copying: &ToldNumber,
     head: RevNo,
 ) -> Result<(), Refusal>
     ensures ok { OnOk result (Appends (O.contents output.old) (O.contents output.new)
-        (inconsistent_text merged copying head)) }
+        (inconsistent_text merged.now copying.now head)) }
     ensures peer { Counted result (O.failures output.old) (O.failures output.new) }
     ensures failed { OnErr result (Rose (O.failures output.old) (O.failures output.new)) }
     ensures only_peer { IfErr result (λ e. e ≡ Refusal.PeerFailed) }
 {
-    write_count_or_dash(output, b"inconsistent: merged ", merged, b", copying ")?;
-    write_count_or_dash(output, b"", copying, b", head ")?;
+    write_told(output, b"inconsistent: merged ", merged, b", copying ")?;
+    write_told(output, b"", copying, b", head ")?;
     write_count(output, b"", u64::from(head.get()), b"")
 }
 
@@ -104,7 +105,7 @@ fn write_text<O: Output>(output: &mut O, refusal: &Refusal) -> Result<(), Refusa
             merged,
             copying,
             head,
-        } => write_inconsistent(output, *merged, *copying, *head),
+        } => write_inconsistent(output, merged, copying, *head),
         Refusal::NotYetCopied(number) => write_count(
             output,
             b"revision ",

@@ -1,18 +1,27 @@
 //! The revision of a dump that is read.
 ghost use Rattle.std.specs.Prelude.{◌≡◌, ◌∷◌, ◌++◌, ◌⊎◌, [], Some, None, is_none, true, false, IfErr, OnOk};
 ghost use Rattle.std.specs.Option.{option_map};
-ghost use Rattle.fleet_engines.specs.Histories.{open_in, rev_of};
+ghost use Rattle.fleet_engines.specs.Histories.{open_in, rev_read};
 ghost use Rattle.fleet_engines.specs.Revisions.{Rev, is_past_zero};
 
-use dump_text::{NodeRecord, RevRecord};
+use crate::revision_nodes::RevisionNodes;
+use dump_text::NodeRecord;
 use node_base::{Props, Refusal, RevNo};
 use std::alloc::Global;
 
-/// The revision whose records are read, where one has begun: its own record, and those of its nodes so far.
+/// A revision that is read: its number, its properties, and its node records so far.
+#[derive(Drop)]
+pub struct ReadRevision {
+    pub number: RevNo,
+    pub props: Props,
+    pub nodes: RevisionNodes,
+}
+
+/// The revision whose records are read, where one has begun.
 #[derive(Drop)]
 pub struct OpenRevision {
     alloc: Global,
-    revision: Option<RevRecord>,
+    revision: Option<ReadRevision>,
 }
 
 impl OpenRevision {
@@ -30,8 +39,8 @@ impl OpenRevision {
     pub fn begin(&mut self, number: RevNo, props: Props)
         ensures { open_in self.new ≡ Some (record { number = number; props = props; nodes = [] }) }
     {
-        let nodes = Vec::new(self.alloc);
-        self.revision = Some(RevRecord {
+        let nodes = RevisionNodes::new(self.alloc);
+        self.revision = Some(ReadRevision {
             number,
             props,
             nodes,
@@ -63,8 +72,8 @@ impl OpenRevision {
     }
 
     /// It, which is whole now, where one has begun; none is read any more.
-    pub fn take(&mut self) -> Option<RevRecord>
-        ensures taken { option_map rev_of result ≡ open_in self.old }
+    pub fn take(&mut self) -> Option<ReadRevision>
+        ensures taken { option_map rev_read result ≡ open_in self.old }
         ensures none { open_in self.new ≡ None }
     {
         self.revision.take()

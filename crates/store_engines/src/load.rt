@@ -17,7 +17,8 @@ ghost use Rattle.fleet_disk.specs.Image.{Image};
 ghost use Rattle.repo_store.specs.Journal.{Keeps};
 ghost use Rattle.repo_store.specs.Words.{disk_of, repository_of, revisions_of, HasFailed, IsKept};
 ghost use Rattle.fleet_engines.specs.Grouping.{is_no_identity, records_of_rev};
-ghost use Rattle.fleet_engines.specs.Histories.{rev_of};
+ghost use Rattle.fleet_engines.specs.Histories.{rev_read};
+ghost use Rattle.fleet_engines.specs.Nodes.{nodes_of};
 ghost use Rattle.fleet_engines.specs.Revisions.{Makes, IsUnfit, is_zero};
 ghost use Rattle.fleet_engines.specs.Runs.{Counted, BothCounted};
 ghost use Rattle.fleet_engines.specs.Takers.{place};
@@ -32,10 +33,10 @@ use crate::commits::commit_applied;
 use crate::mirror::refuse_mirror;
 use crate::report::LoadReport;
 use byte_streams::Input;
-use dump_load::{Applied, change_refusal, load_revision};
-use dump_text::{DumpRecord, NodeRecord, RevRecord};
+use dump_load::{Applied, change_refusal};
+use dump_text::DumpRecord;
 use fleet_disk::Disk;
-use fleet_engines::{OpenRevision, Taker, read_stream};
+use fleet_engines::{OpenRevision, ReadRevision, RevisionNodes, Taker, read_stream};
 use node_base::{Props, Refusal, RevNo};
 use path_tree::Tree;
 use repo_core::Repo;
@@ -43,32 +44,27 @@ use repo_store::{RepoStore, store_refusal};
 use std::alloc::Global;
 
 // Whether it is revision 0 of a repository without any other.
-fn is_zero(repo: &Repo, revision: &RevRecord) -> bool
-    ensures { result ≡ is_zero (trees_of repo.now.revisions) (rev_of revision.now) }
+fn is_zero(repo: &Repo, revision: &ReadRevision) -> bool
+    ensures { result ≡ is_zero (trees_of repo.now.revisions) (rev_read revision.now) }
 {
     repo.trees().len() == 1 && revision.number == RevNo::ZERO
 }
 
 // The set of the revision after the head with the tree that it makes. WrongNumber (16) where the number isn't its, and
 // then what makes no set or has a fault over the trees so far.
-fn judge(
-    alloc: Global,
-    trees: &[Tree],
-    number: RevNo,
-    nodes: Vec<NodeRecord>,
-) -> Result<Applied, Refusal>
+fn judge(trees: &[Tree], number: RevNo, nodes: RevisionNodes) -> Result<Applied, Refusal>
     ensures made { IfOk result (λ a. (props : PropMap)
-        → Makes trees.now (record { number = number; props = props; nodes = nodes.items }) a.set a.tree) }
+        → Makes trees.now (record { number = number; props = props; nodes = nodes_of nodes }) a.set a.tree) }
     ensures refused { IfErr result (λ e. (e ≡ Refusal.OutOfMemory)
         ⊎ ((props : PropMap) → IsUnfit trees.now
-        (record { number = number; props = props; nodes = nodes.items }) e)) }
+        (record { number = number; props = props; nodes = nodes_of nodes }) e)) }
     ensures no_device { IfErr result (λ e. is_device e ≡ false) }
     ensures no_peer { IfErr result (λ e. e ≡ Refusal.PeerFailed → ⊥) }
 {
     if number.index() != trees.len() {
         return Err(Refusal::WrongNumber);
     }
-    match load_revision(alloc, trees, number, nodes) {
+    match nodes.load(trees, number) {
         Ok(applied) => Ok(applied),
         Err(fault) => Err(change_refusal(fault)),
     }
@@ -91,29 +87,29 @@ fn put_zero<D: Disk + Drop>(
 // Judges a revision other than 0, commits it, and says so.
 fn load_next<D: Disk + Drop, T: LoadReport>(
     alloc: Global,
-    revision: RevRecord,
+    revision: ReadRevision,
     store: &mut RepoStore<D>,
     report: &mut T,
 ) -> Result<(), Refusal>
-    requires later { is_zero (trees_of (revisions_of store.old)) (rev_of revision) ≡ false }
+    requires later { is_zero (trees_of (revisions_of store.old)) (rev_read revision) ≡ false }
     ensures ok { OnOk result ((entry : Entry) × (line : List ℕ)
-        × IsLoaded (revisions_of store.old) (rev_of revision) entry line
+        × IsLoaded (revisions_of store.old) (rev_read revision) entry line
         × (entry_fault (revisions_of store.old) entry ≡ None)
         × (repository_of store.new ≡ with_entry_in (repository_of store.old) entry)
         × Appends (T.contents report.old) (T.contents report.new) line) }
-    ensures refused { IfErr result (λ e. NotLoaded (repository_of store.old) (rev_of revision) store.new
+    ensures refused { IfErr result (λ e. NotLoaded (repository_of store.old) (rev_read revision) store.new
         (T.contents report.old) (T.contents report.new) (Rose (T.failures report.old) (T.failures report.new)) e) }
     ensures device { IsSafe store.old
-        → ServesRecords (records_of_rev (rev_of revision)) store.old store.new result [] }
+        → ServesRecords (records_of_rev (rev_read revision)) store.old store.new result [] }
     ensures told { KeepsTold store.old store.new (T.told report.old) (T.told report.new) }
     ensures peer { Counted result (T.failures report.old) (T.failures report.new) }
 {
-    let RevRecord {
+    let ReadRevision {
         number,
         props,
         nodes,
     } = revision;
-    let applied = judge(alloc, store.repo().trees(), number, nodes)?;
+    let applied = judge(store.repo().trees(), number, nodes)?;
     commit_applied(alloc, store, applied, props)?;
     report.loaded(store, number)
 }
@@ -121,20 +117,20 @@ fn load_next<D: Disk + Drop, T: LoadReport>(
 // Loads a revision that is whole.
 fn load_one<D: Disk + Drop, T: LoadReport>(
     alloc: Global,
-    revision: RevRecord,
+    revision: ReadRevision,
     store: &mut RepoStore<D>,
     report: &mut T,
 ) -> Result<(), Refusal>
-    ensures ok { OnOk result (IsBare (rev_of revision) → (entry : Entry) × (line : List ℕ)
-        × IsLoaded (revisions_of store.old) (rev_of revision) entry line
+    ensures ok { OnOk result (IsBare (rev_read revision) → (entry : Entry) × (line : List ℕ)
+        × IsLoaded (revisions_of store.old) (rev_read revision) entry line
         × (entry_fault (revisions_of store.old) entry ≡ None)
         × (repository_of store.new ≡ with_entry_in (repository_of store.old) entry)
         × Appends (T.contents report.old) (T.contents report.new) line) }
-    ensures refused { IfErr result (λ e. IsBare (rev_of revision)
-        → NotLoaded (repository_of store.old) (rev_of revision) store.new (T.contents report.old)
+    ensures refused { IfErr result (λ e. IsBare (rev_read revision)
+        → NotLoaded (repository_of store.old) (rev_read revision) store.new (T.contents report.old)
         (T.contents report.new) (Rose (T.failures report.old) (T.failures report.new)) e) }
     ensures device { IsSafe store.old
-        → ServesRecords (records_of_rev (rev_of revision)) store.old store.new result [] }
+        → ServesRecords (records_of_rev (rev_read revision)) store.old store.new result [] }
     ensures told { KeepsTold store.old store.new (T.told report.old) (T.told report.new) }
     ensures peer { Counted result (T.failures report.old) (T.failures report.new) }
 {

@@ -6,7 +6,7 @@ use Rattle.std.proofs.KnownBytes.{Appends-trans}
 use Rattle.std.proofs.lemmas.Result.{err_from_is_err_and, on_ok_weaker}
 use Rattle.std.specs.Result.{OnErr}
 use Rattle.byte_streams.specs.Causes.{Rose}
-use Rattle.node_base.specs.Refusals.{fault_line, inconsistent_text, number_or_dash, refusal_number, refusal_text, shown_token}
+use Rattle.node_base.specs.Refusals.{fault_line, inconsistent_text, told_text, refusal_number, refusal_text, shown_token}
 use Rattle.fleet_engines.specs.Runs.{Counted}
 use Rattle.fleet_engines.proofs.line.write_token.Goals as goal
 

@@ -1,5 +1,5 @@
 use Rattle.std.proofs.Common.{◌∙◌, ap, refl, sym}
-use Rattle.fleet_engines.specs.Histories.{rev_of}
+use Rattle.fleet_engines.specs.Histories.{rev_read}
 use Rattle.fleet_engines.specs.Revisions.{is_zero}
 use Rattle.repo_core.specs.Repository.{trees_of}
 use Rattle.repo_store.specs.Words.{repository_of}
@@ -13,19 +13,19 @@ use Rattle.store_engines.proofs.load.load_one.Goals as goal
 
 pub returns-then-is_zero-clause-ok : goal.returns-then-is_zero-clause-ok
 returns-then-is_zero-clause-ok g c =
-    let r = rev_of c.args.revision in
+    let r = rev_read c.args.revision in
     let zero = ap (λ v. is_zero (trees_of v.revisions) r) (sym c.repo.ensures.value) ∙ sym c.is_zero.ensures ∙ c.if-is_zero.true in
     zero_said (repository_of c.args.store.now) (repository_of c.put_zero.new.store) r (g.T.LoadReport.contents c.args.report.now) c.put_zero.result zero c.put_zero.ensures.taken c.put_zero.ensures.ok
 
 pub returns-then-is_zero-clause-refused : goal.returns-then-is_zero-clause-refused
 returns-then-is_zero-clause-refused g c =
-    let r = rev_of c.args.revision in
+    let r = rev_read c.args.revision in
     let zero = ap (λ v. is_zero (trees_of v.revisions) r) (sym c.repo.ensures.value) ∙ sym c.is_zero.ensures ∙ c.if-is_zero.true in
     zero_err (repository_of c.args.store.now) c.put_zero.new.store r (g.T.LoadReport.contents c.args.report.now) (Rose (g.T.LoadReport.failures c.args.report.now) (g.T.LoadReport.failures c.args.report.now)) c.put_zero.result zero c.put_zero.ensures.same c.put_zero.ensures.refused
 
 pub returns-then-is_zero-clause-device : goal.returns-then-is_zero-clause-device
 returns-then-is_zero-clause-device g c safe =
-    let r = rev_of c.args.revision in
+    let r = rev_read c.args.revision in
     let zero = ap (λ v. is_zero (trees_of v.revisions) r) (sym c.repo.ensures.value) ∙ sym c.is_zero.ensures ∙ c.if-is_zero.true in
     of_entry r (Mapped 0 c.args.revision.props) c.args.store.now c.put_zero.new.store c.put_zero.result (of_zero zero refl) (c.put_zero.ensures.device safe)
 

@@ -1,7 +1,7 @@
 use Rattle.std.proofs.Common.{◌∙◌, ap, sym, refl, inr}
 use Rattle.dump_load.specs.declared.fault.ChangeFault.TheVariants as change
 use Rattle.dump_load.specs.Records.{out_of_turn}
-use Rattle.fleet_engines.specs.Histories.{rev_of, told_of}
+use Rattle.fleet_engines.specs.Histories.{rev_read, told_of}
 use Rattle.fleet_engines.proofs.history.History.add_revision.Goals as goal
 
 pub returns-then-index-len-clause-refused : goal.returns-then-index-len-clause-refused
@@ -13,7 +13,7 @@ returns-in-Err-clause-refused c = inr (c.in-Err.fault, c.change_refusal.ensures.
 pub returns-in-Ok-push-clause-made : goal.returns-in-Ok-push-clause-made
 returns-in-Ok-push-clause-made c =
     let e = c.in-Ok.ensures in
-    let r = rev_of c.args.revision in
+    let r = rev_read c.args.revision in
     let d = c.deref.ensures.value in (
       c.in-Ok.loaded.set,
       c.in-Ok.loaded.tree,

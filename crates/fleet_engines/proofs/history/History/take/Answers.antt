@@ -1,4 +1,4 @@
-use Rattle.std.proofs.Common.{ap, refl, Some}
+use Rattle.std.proofs.Common.{ap, refl}
 use Rattle.fleet_engines.specs.Histories.{told_of}
 use Rattle.fleet_engines.proofs.history.History.take.Goals as goal
 

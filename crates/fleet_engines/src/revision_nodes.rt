@@ -1,0 +1,168 @@
+//! The node records of a revision that is read. Once there are more than a set is made of, their paths alone are kept.
+ghost use Rattle.std.specs.Prelude.{◌≡◌, ◌≤◌, ◌<◌, ◌∷◌, ◌++◌, [], List, Some, length, map, IfOk, OnOk, OnErr};
+ghost use Rattle.dump_load.specs.declared.change.Change.{Change};
+ghost use Rattle.dump_load.specs.Records.{change_of, set_fault};
+ghost use Rattle.fleet_engines.specs.FirstPaths.{AreFirstPaths};
+
+use dump_load::{Applied, ChangeFault, load_revision};
+use dump_text::NodeRecord;
+use node_base::limits::CHANGES;
+use node_base::{NodePath, RevNo};
+use path_tree::Tree;
+use std::alloc::{AllocError, Global};
+use std::collections::BTreeSet;
+use std::snapshot::Snapshot;
+
+/// How many node records of one revision are kept, two for each path that a set may have. More make no set, since two
+/// at most come together at one path: so they name more paths than a set may have (8), or some of them don't combine
+/// (15).
+pub const NODES: usize = 8_192;
+
+/// The node records of one revision, as they came. Up to 8,192 they are kept. From the next one on the paths are kept
+/// in their place, 4,097 at most, which say which of the two faults it is.
+#[derive(Drop)]
+pub struct RevisionNodes {
+    alloc: Global,
+    kept: Vec<NodeRecord>,
+    paths: BTreeSet<NodePath>,
+    // (snapshots, which take no memory)
+    pub(crate) came: Vec<Snapshot<NodeRecord>>,
+    ghost few: { length kept.items ≤ 8192 },
+    ghost all: { length came.items ≤ 8192 → kept.items ≡ map (λ s. s.value) came.items },
+    ghost few_paths: { length paths.keys ≤ 4097 },
+    ghost named: { 8192 < length came.items
+        → AreFirstPaths paths.keys (map change_of (map (λ s. s.value) came.items)) },
+}
+
+// A path more, unless there are too many already.
+fn add_path(paths: &mut BTreeSet<NodePath>, path: NodePath) -> Result<(), AllocError>
+    ensures named { OnOk result ((cs : List Change) (c : Change) → c.path ≡ path
+        → AreFirstPaths paths.old.keys cs → AreFirstPaths paths.new.keys (cs ++ c ∷ [])) }
+    ensures few { length paths.old.keys ≤ 4097 → length paths.new.keys ≤ 4097 }
+    ensures same { OnErr result (paths.new.keys ≡ paths.old.keys) }
+{
+    if paths.len() > CHANGES {
+        return Ok(());
+    }
+    paths.insert(path)?;
+    Ok(())
+}
+
+// The paths of records.
+fn paths_of(alloc: Global, nodes: &[NodeRecord]) -> Result<BTreeSet<NodePath>, AllocError>
+    ensures named { IfOk result (λ paths. AreFirstPaths paths.keys (map change_of nodes.now)) }
+    ensures few { IfOk result (λ paths. length paths.keys ≤ 4097) }
+{
+    let mut paths = BTreeSet::new(alloc);
+    for node in nodes {
+        add_path(&mut paths, node.path.copy(alloc)?)?;
+    }
+    Ok(paths)
+}
+
+// Why more changes than are kept make no set.
+fn fault_of(paths: &BTreeSet<NodePath>) -> ChangeFault
+    ensures { (cs : List Change) → 8192 < length cs → AreFirstPaths paths.now.keys cs → set_fault cs ≡ Some result }
+{
+    if paths.len() > CHANGES {
+        return ChangeFault::TooLong;
+    }
+    ChangeFault::OutOfOrder
+}
+
+// A record's path.
+fn path_in(node: NodeRecord) -> NodePath
+    ensures { result ≡ node.path }
+{
+    node.path
+}
+
+impl RevisionNodes {
+    ghost use Rattle.std.specs.Prelude.{IfErr};
+    ghost use Rattle.dump_load.specs.Trees.{Makes};
+    ghost use Rattle.dump_load.specs.Records.{IsNormalSetOf, IsLoadRefusal};
+    ghost use Rattle.fleet_engines.specs.Nodes.{nodes_of};
+
+    /// None came yet.
+    pub fn new(alloc: Global) -> RevisionNodes
+        ensures { nodes_of result ≡ [] }
+    {
+        RevisionNodes {
+            alloc,
+            kept: Vec::new(alloc),
+            paths: BTreeSet::new(alloc),
+            came: Vec::new(alloc),
+        }
+    }
+
+    /// One more came.
+    pub fn push(&mut self, node: NodeRecord) -> Result<(), AllocError>
+        ensures { OnOk result (nodes_of self.new ≡ nodes_of self.old ++ node ∷ []) }
+    {
+        let came = self.came.len();
+        if came < NODES {
+            return self.keep(node);
+        }
+        if came == NODES {
+            return self.pass(node);
+        }
+        self.note(node)
+    }
+
+    // It is kept.
+    fn keep(&mut self, node: NodeRecord) -> Result<(), AllocError>
+        requires { length self.old.came.items < 8192 }
+        ensures { OnOk result (nodes_of self.new ≡ nodes_of self.old ++ node ∷ []) }
+    {
+        self.came.reserve(1)?;
+        let came = Snapshot::of(&node);
+        self.kept.push(node)?;
+        self.came.push_reserved(came);
+        Ok(())
+    }
+
+    // It is one too many: the paths of all are kept from now on.
+    fn pass(&mut self, node: NodeRecord) -> Result<(), AllocError>
+        requires { length self.old.came.items ≡ 8192 }
+        ensures { OnOk result (nodes_of self.new ≡ nodes_of self.old ++ node ∷ []) }
+    {
+        self.came.reserve(1)?;
+        let came = Snapshot::of(&node);
+        let mut paths = paths_of(self.alloc, &self.kept)?;
+        add_path(&mut paths, path_in(node))?;
+        self.paths = paths;
+        self.kept.clear();
+        self.came.push_reserved(came);
+        Ok(())
+    }
+
+    // Its path is kept, where it is a new one.
+    fn note(&mut self, node: NodeRecord) -> Result<(), AllocError>
+        requires { 8192 < length self.old.came.items }
+        ensures { OnOk result (nodes_of self.new ≡ nodes_of self.old ++ node ∷ []) }
+    {
+        self.came.reserve(1)?;
+        let came = Snapshot::of(&node);
+        add_path(&mut self.paths, path_in(node))?;
+        self.came.push_reserved(came);
+        Ok(())
+    }
+
+    /// The set that all make with the tree that it makes, over the trees before the revision. Refused are a number
+    /// that isn't the next one (16), then what makes no set, then the set's first fault.
+    pub fn load(self, trees: &[Tree], number: RevNo) -> Result<Applied, ChangeFault>
+        requires { length trees.now ≤ 65535 }
+        ensures number { OnOk result (number ≡ length trees.now) }
+        ensures set { IfOk result (λ a. IsNormalSetOf trees.now (nodes_of self) a.set) }
+        ensures makes { IfOk result (λ a. Makes trees.now a.set a.tree) }
+        ensures refused { IfErr result (λ e. IsLoadRefusal trees.now number (nodes_of self) e) }
+    {
+        if self.came.len() <= NODES {
+            return load_revision(self.alloc, trees, number, self.kept);
+        }
+        if number.index() != trees.len() {
+            return Err(ChangeFault::WrongNumber);
+        }
+        Err(fault_of(&self.paths))
+    }
+}
