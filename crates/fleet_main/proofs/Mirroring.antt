@@ -21,7 +21,7 @@ use Rattle.sync_job.specs.Stops.{StopsAsMirror}
 use Rattle.sync_job.specs.Worlds.{IsEvents}
 use Rattle.sync_job.specs.declared.lent.LentMaster.{LentMaster}
 use Rattle.sync_job.specs.declared.report.Told.{Told}
-use Rattle.mirror_engines.specs.Infos.{info_fault, info_text}
+use Rattle.mirror_engines.specs.Infos.{info_fault, info_text, IsUntold}
 use Rattle.mirror_engines.specs.Lines.{line_of, IsPrinted, Printed, Lost}
 use Rattle.mirror_engines.specs.Runs.{answer_of, IsWorked, Serves}
 use Rattle.mirror_engines.specs.Worlds.{later_at, stands_in, stands_last, BringsTrees, Hears, IsCaughtUp, EventsInWorld, IsMirroredFrom, IsPortOf, StopsInWorld}
@@ -187,7 +187,7 @@ module _ {F D : Type 0} (G : Ghosts D) (H : FolderGhosts F D) (folders then late
   told_done (Err e) o fine text k t = tt
 
   pub told_refused : (r : Result (Unit {0}) Refusal) (fails : Type 0) → IsOpenedIn G H folders then folder store
-      → IfErr r (λ e. ((info_fault (props_at (revisions_of store) 0) (head_of (revisions_of store)) ≡ Some e) × (now ≡ before)) ⊎ ((e ≡ refusal.PeerFailed) × fails)) → KeptThen store
+      → IfErr r (λ e. (IsUntold (props_at (revisions_of store) 0) (head_of (revisions_of store)) e × (now ≡ before)) ⊎ ((e ≡ refusal.PeerFailed) × fails)) → KeptThen store
       → TakesBack G H then later folder (disk_of store) → IfErr r (λ e. UnopenedOr G H folders later folder before now e (NotToldOf (H.honest folders) before now fails e))
   told_refused (Ok u) fails o h k t = tt
   told_refused (Err e) fails o h k t =

@@ -34,7 +34,7 @@ use Rattle.sync_job.specs.Fronts.{accepted_in, counted_in}
 use Rattle.sync_job.specs.Leading.{TellsMaster}
 use Rattle.sync_job.specs.Questions.{Exchange}
 use Rattle.sync_job.specs.Said.{Spoken, told_in}
-use Rattle.mirror_engines.specs.Infos.{info_fault, info_text}
+use Rattle.mirror_engines.specs.Infos.{info_fault, info_text, IsUntold}
 use Rattle.mirror_engines.specs.Lines.{line_of, IsPrinted}
 use Rattle.mirror_engines.specs.Runs.{answer_of, IsWorked, Leaves}
 use Rattle.mirror_engines.specs.Worlds.{IsCaughtUp, IsMirroredFrom, Leads}
@@ -226,7 +226,7 @@ IsToldOf honest before now old new =
 -- it isn't told: the repository is no mirror or rests in no shape, and nothing is written; or the output fails
 abbrev pub NotToldOf : {D : Type 0} {G : Ghosts D} → Type 0 → Option (List ℕ) → Option (List ℕ) → Type 0 → Refusal → RepoStore D G → RepoStore D G → Type 0
 NotToldOf honest before now fails e old new =
-    (new ≡ old) × (((info_fault (props_at (revisions_of old) 0) (head_of (revisions_of old)) ≡ Some e) × (now ≡ before)) ⊎ ((e ≡ refusal.PeerFailed) × fails)) × IsKept honest old
+    (new ≡ old) × ((IsUntold (props_at (revisions_of old) 0) (head_of (revisions_of old)) e × (now ≡ before)) ⊎ ((e ≡ refusal.PeerFailed) × fails)) × IsKept honest old
 
 -- the number of the newest revision in decimal digits, and a newline
 abbrev pub head_line : List Revision → List ℕ

@@ -200,7 +200,7 @@ fn info<F: Folders, O: Output + Drop>(
 {
     match opened(alloc, folders, mirror) {
         Ok(store) => {
-            let done = run_info(&store, output);
+            let done = run_info(alloc, &store, output);
             closed(folders, mirror, store);
             done
         }

@@ -1,11 +1,12 @@
 -- What is told of a mirror.
-use Rattle.std.specs.Prelude.{ℕ, Bool, true, false, List, [], ◌∷◌, ◌++◌, Option, Some, None, is_none, codes, if◌then◌else◌}
+use Rattle.std.specs.Prelude.{◌≡◌, ◌⊎◌, ℕ, Bool, true, false, List, [], ◌∷◌, ◌++◌, Option, Some, None, is_none, codes, if◌then◌else◌}
 use Rattle.std.specs.Option.{option_map_or}
 use Rattle.std.specs.FinMap as finite
 use Rattle.node_base.specs.Props.{PropMap}
 use Rattle.node_base.specs.declared.refusal.Refusal.{Refusal}
 use Rattle.node_base.specs.declared.refusal.Refusal.TheVariants as refusal
-use Rattle.sync_core.specs.Faults.{spelt_in}
+use Rattle.node_base.specs.declared.told_number.ToldNumber.TheVariants as told
+use Rattle.sync_core.specs.Faults.{told_of}
 use Rattle.sync_core.specs.Names.{url_name, uuid_name, merged_name, copying_name, number_at}
 use Rattle.sync_core.specs.declared.number.Number.{Number}
 use Rattle.sync_core.specs.declared.number.Number.TheVariants.{Absent, Misspelt, Spelt, Huge}
@@ -21,12 +22,20 @@ spells_number Huge = true
 abbrev pub merged_digits : PropMap → Option (List ℕ)
 merged_digits own = if spells_number (number_at own merged_name) then finite.get own merged_name else None
 
+-- what is told of a mirror in which what is merged is absent or misspelt (57)
+abbrev pub unmerged : PropMap → ℕ → Refusal
+unmerged own head = refusal.Inconsistent told.Missing (told_of (number_at own copying_name) (finite.get own copying_name)) head
+
 -- why nothing is told of a repository with these properties on revision 0 and that head: it is no mirror (51), or what is merged is absent or misspelt (57)
 abbrev pub info_fault : PropMap → ℕ → Option Refusal
 info_fault own head =
     if is_none (finite.get own url_name) then Some refusal.NotInitialised
     else if spells_number (number_at own merged_name) then None
-    else Some (refusal.Inconsistent None (spelt_in (number_at own copying_name)) head)
+    else Some (unmerged own head)
+
+-- with what it is refused: that, or want of memory for the numbers that are told of it
+abbrev pub IsUntold : PropMap → ℕ → Refusal → Type 0
+IsUntold own head e = (info_fault own head ≡ Some e) ⊎ ((e ≡ refusal.OutOfMemory) × (info_fault own head ≡ Some (unmerged own head)))
 
 -- a value, which is empty where there is none
 abbrev pub valued : Option (List ℕ) → List ℕ

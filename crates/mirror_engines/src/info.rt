@@ -1,26 +1,28 @@
 //! How a mirror stands.
-ghost use Rattle.std.specs.Prelude.{◌≡◌, ◌⊎◌, None, Some, IfErr, OnOk, OnErr};
+ghost use Rattle.std.specs.Prelude.{◌≡◌, ◌⊎◌, None, Some, IfOk, IfSome, IfErr, OnOk, OnErr};
 ghost use Rattle.std.specs.Io.KnownBytes.{Appends};
 ghost use Rattle.std.specs.Option.{option_copied};
 ghost use Rattle.byte_streams.specs.Causes.{Rose};
 ghost use Rattle.fleet_engines.specs.Runs.{Counted};
 ghost use Rattle.repo_core.specs.Repository.{head_of, props_at};
 ghost use Rattle.repo_store.specs.Words.{revisions_of};
-ghost use Rattle.sync_core.specs.Faults.{spelt_in};
-ghost use Rattle.mirror_engines.specs.Infos.{info_fault, info_line, info_text, merged_digits, spells_number, valued};
+ghost use Rattle.mirror_engines.specs.Infos.{info_fault, info_line, info_text, merged_digits, spells_number, unmerged, valued, IsUntold};
 
 use byte_streams::Output;
 use fleet_disk::Disk;
 use fleet_engines::write_parts;
-use node_base::{Props, Refusal, RevNo};
+use node_base::{Props, Refusal, RevNo, ToldNumber};
 use repo_store::RepoStore;
-use sync_core::properties::{MERGED, copying, merged, url, uuid};
-use sync_core::{Number, own_of};
+use std::alloc::{AllocError, Global};
+use sync_core::properties::{MERGED, merged, url, uuid};
+use sync_core::{Number, look, own_of, told_of};
 
 /// Prints where a mirror is copied from, which repository that is, and the last revision that is copied whole.
 /// Nothing is printed where the repository is no mirror (NotInitialised, 51), or what is merged is absent or misspelt
-/// (Inconsistent, 57). PeerFailed (49) where the writer failed, and only there.
+/// (Inconsistent, 57); OutOfMemory (70) comes where there is no room to tell that, and only there. PeerFailed (49)
+/// where the writer failed, and only there.
 pub fn run_info<D: Disk + Drop, O: Output>(
+    alloc: Global,
     store: &RepoStore<D>,
     output: &mut O,
 ) -> Result<(), Refusal>
@@ -28,22 +30,24 @@ pub fn run_info<D: Disk + Drop, O: Output>(
         ≡ None) }
     ensures ok { OnOk result (Appends (O.contents output.old) (O.contents output.new)
         (info_text (props_at (revisions_of store.now) 0))) }
-    ensures refused { IfErr result (λ e. ((info_fault (props_at (revisions_of store.now) 0)
-        (head_of (revisions_of store.now)) ≡ Some e) × (O.contents output.new ≡ O.contents output.old))
+    ensures refused { IfErr result (λ e. (IsUntold (props_at (revisions_of store.now) 0)
+        (head_of (revisions_of store.now)) e × (O.contents output.new ≡ O.contents output.old))
         ⊎ ((e ≡ Refusal.PeerFailed) × Rose (O.failures output.old) (O.failures output.new))) }
     ensures peer { Counted result (O.failures output.old) (O.failures output.new) }
 {
     let repo = store.repo();
     let own = own_of(repo);
-    match fault_of(own, repo.head()) {
+    match fault_of(alloc, own, repo.head()) {
         Some(refusal) => Err(refusal),
         None => write_all(own, output),
     }
 }
 
-// Why nothing is told of a mirror: it isn't initialized, or what is merged is absent or misspelt.
-fn fault_of(own: &Props, head: RevNo) -> Option<Refusal>
-    ensures value { result ≡ info_fault own.now head }
+// Why nothing is told of a mirror: it isn't initialized, or what is merged is absent or misspelt. OutOfMemory where
+// there is no room for what is told of it.
+fn fault_of(alloc: Global, own: &Props, head: RevNo) -> Option<Refusal>
+    ensures fine { result ≡ None → info_fault own.now head ≡ None }
+    ensures refused { IfSome result (IsUntold own.now head) }
     ensures no_peer { result ≡ Some Refusal.PeerFailed → ⊥ }
 {
     if url(own).is_none() {
@@ -52,9 +56,20 @@ fn fault_of(own: &Props, head: RevNo) -> Option<Refusal>
     if spells_number(merged(own)) {
         return None;
     }
-    Some(Refusal::Inconsistent {
-        merged: None,
-        copying: spelt(copying(own)),
+    match inconsistent(alloc, own, head) {
+        Ok(refusal) => Some(refusal),
+        Err(_) => Some(Refusal::OutOfMemory),
+    }
+}
+
+// What is told where the number that is merged is absent or misspelt.
+fn inconsistent(alloc: Global, own: &Props, head: RevNo) -> Result<Refusal, AllocError>
+    ensures { IfOk result (λ r. r ≡ unmerged own.now head) }
+{
+    let standing = look(alloc, own, head)?;
+    Ok(Refusal::Inconsistent {
+        merged: ToldNumber::Missing,
+        copying: told_of(standing.copying, standing.copying_text),
         head,
     })
 }
@@ -77,18 +92,6 @@ fn merged_digits(own: &Props) -> Option<&[u8]>
         own.get(MERGED)
     } else {
         None
-    }
-}
-
-// The number, where it is spelt and below 2^64.
-fn spelt(number: Number) -> Option<u64>
-    ensures { result ≡ spelt_in number }
-{
-    match number {
-        Number::Spelt(number) => Some(number),
-        Number::Absent => None,
-        Number::Misspelt => None,
-        Number::Huge => None,
     }
 }
 

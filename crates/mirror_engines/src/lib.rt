@@ -9,7 +9,7 @@
 //! let master = LentMaster::new(&source);
 //! let (mirror, mut output, done) = run_synchronize(alloc, mirror, master, token, false, output);
 //! done?;
-//! run_info(&mirror, &mut output)?;
+//! run_info(alloc, &mirror, &mut output)?;
 //! ```
 //!
 //! A run is one of `sync_job`, over a mirror that is held alone and a master of any kind: a store that is lent, as
