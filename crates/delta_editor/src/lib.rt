@@ -22,6 +22,7 @@ pub use editor::Editor;
 pub use fault::EditorFault;
 pub use node_base::Source;
 pub use recorder::{OpenDir, OpenFile, Recorder};
+pub use text_editor::TextEditor;
 
 mod bytes;
 mod call;
@@ -29,3 +30,4 @@ mod editor;
 mod fault;
 pub mod law;
 mod recorder;
+mod text_editor;

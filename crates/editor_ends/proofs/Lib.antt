@@ -20,5 +20,6 @@ pub mod Places
 pub mod Showing
 pub mod Shows
 pub mod Sound
+pub mod Texts
 pub mod Unrefused
 pub mod Walks

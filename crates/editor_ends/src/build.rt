@@ -10,13 +10,13 @@ ghost use Rattle.dump_load.specs.Changes.{is_add, is_delete, settles, IsNormal};
 ghost use Rattle.dump_load.specs.Trees.{Makes};
 ghost use Rattle.editor_ends.specs.BuildFaults.{begun, begin_fault};
 ghost use Rattle.editor_ends.specs.Built.{Made, Begins, IsFaultOr, IsSetOf, is_late_in};
-ghost use Rattle.editor_ends.specs.Builders.{has_shown, trees_of, set_within, built_over, is_made_of};
+ghost use Rattle.editor_ends.specs.Builders.{has_shown, trees_of, set_within, built_over, is_made_of, text_at};
 
 use crate::building::{append_text, delete, new_change, open_or_add, put_prop, start_text};
 use crate::finish::finish;
-use delta_editor::{Editor, EditorFault, Source};
+use delta_editor::{Editor, EditorFault, Source, TextEditor};
 use dump_load::{Applied, Change, ChangeSet, begin};
-use node_base::{Action, NodeKind, NodePath, PropName, RevNo};
+use node_base::{Action, NodeKind, NodePath, PropName, RevNo, Text};
 use path_tree::Tree;
 use std::alloc::{AllocError, Global};
 
@@ -335,5 +335,36 @@ impl<'a> Editor for BuildEditor<'a> {
             tree: _,
             changes: _,
         } = self;
+    }
+}
+
+impl<'a> TextEditor for BuildEditor<'a> {
+    ghost use Rattle.editor_ends.specs.Builders.{HasText};
+
+    ghost Texts = { List PathMap };
+
+    ghost texts = { trees_of };
+
+    ghost has_text = { HasText };
+
+    #[tactic(auto, using(crate::proofs::Texts::has_text))]
+    fn text_so_far(&self, file: &BuiltFile) -> Result<Text, AllocError> {
+        text_at(self.alloc, &self.tree, &file.path)
+    }
+
+    ghost same_texts = { λ one other h. h };
+}
+
+// The text at a path, for another owner; the empty one where no file is there.
+#[tactic(auto, using(crate::proofs::Texts::text_found))]
+fn text_at(alloc: Global, tree: &Tree, path: &NodePath) -> Result<Text, AllocError>
+    ensures { IfOk result (λ t. t ≡ text_at (map.get tree.now) path.now) }
+{
+    match tree.get(path.names()) {
+        Some(node) => match &node.text {
+            Some(text) => text.share(),
+            None => Text::empty(alloc),
+        },
+        None => Text::empty(alloc),
     }
 }
