@@ -5,6 +5,12 @@ mod Told
 pub mod Receiving
 pub mod Refusing
 pub mod Steps
+pub mod DeltaDoes
+pub mod DeltaDrives
+pub mod DeltaItems
+pub mod DeltaText
+pub mod DeltaStanding
+pub mod DeltaSays
 pub mod Drives
 pub mod NothingDue
 pub mod OneEdit

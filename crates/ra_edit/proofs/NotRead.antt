@@ -1,5 +1,5 @@
 -- What can't be read.
-use Rattle.std.proofs.Common.{◌≡◌, ℕ, List, [], ◌∷◌, Option, Some, None, Result, Ok, Err, IfErr, refl, sym, ap, subst, ◌∙◌, inl, inr, if◌then◌else◌}
+use Rattle.std.proofs.Common.{Vec, Global, ◌≡◌, ℕ, List, [], ◌∷◌, Option, Some, None, Result, Ok, Err, IfOk, IfErr, refl, sym, ap, subst, ◌∙◌, inl, inr, if◌then◌else◌}
 use Rattle.std.specs.Prelude.{◌⊎◌}
 use Rattle.ra_item.specs.Items.{Item, Items, End, Then, Word, Number, Text, Nested, row}
 use Rattle.node_base.specs.Path.{Path, same_name}
@@ -7,7 +7,8 @@ use Rattle.node_base.specs.PathText.{path_read}
 use Rattle.node_base.specs.declared.node.Source.{Source}
 use Rattle.ra_edit.specs.Commands.{list}
 use Rattle.ra_edit.specs.Edits.{IsRevision, IsString, IsSum, IsSource}
-use Rattle.ra_edit.specs.Receiving.{Param, AList, ABase, AValue, ASum, ASource, IsA, BeginWith, NotRead, params_of, Forms, IsNoCommand}
+use Rattle.ra_edit.specs.Differences.{SaysSum, SaysSumWith, IsNoDelta, params_over}
+use Rattle.ra_edit.specs.Receiving.{Param, AText, AList, ABase, AValue, ASum, ASource, IsA, BeginWith, NotRead, NextIs, params_of, Forms, FormsWith, IsNoCommand}
 use Rattle.ra_edit.specs.Names.{word_of}
 use Rattle.ra_edit.specs.declared.receive_command.Command.{Command}
 use Rattle.ra_edit.specs.declared.receive_command.Command.TheVariants as command
@@ -16,6 +17,7 @@ use Rattle.ra_edit.specs.declared.name.Name.TheVariants as name
 use Rattle.ra_edit.specs.declared.shape_fault.ShapeFault.{ShapeFault}
 use Rattle.ra_edit.specs.declared.shape_fault.ShapeFault.TheVariants as shape
 use Rattle.ra_edit.proofs.OneEdit.{no_slash}
+use Rattle.ra_edit.proofs.Receiving.{named2}
 
 -- ---- a list's items
 
@@ -35,7 +37,7 @@ abbrev inside : Item → List Item
 inside (Nested xs) = unrow xs
 inside _ = []
 
-same_list : (xs ys : List Item) → list xs ≡ list ys → xs ≡ ys
+pub same_list : (xs ys : List Item) → list xs ≡ list ys → xs ≡ ys
 same_list xs ys e = sym (row_back xs) ∙ ap inside e ∙ row_back ys
 
 abbrev rest_of : List Item → List Item
@@ -124,7 +126,7 @@ name_back n = refl
 some_same : (n m : Name) → Some n ≡ Some m → n ≡ m
 some_same n m e = cc
 
-same_word : (n m : Name) → word_of n ≡ word_of m → n ≡ m
+pub same_word : (n m : Name) → word_of n ≡ word_of m → n ≡ m
 same_word n m e = some_same n m (sym (name_back n) ∙ ap name_at e ∙ name_back m)
 
 -- an item that is a command has a name, and begins with that name's parameters
@@ -190,3 +192,70 @@ not_begun x parts behind more params w n shape.BadShape e h m is k = λ c l.
 pub no_command : (r : Result Command ShapeFault) (x : Item) (parts behind more params : List Item) (w : List ℕ) (n : Name) → x ≡ list parts → parts ≡ Word w ∷ behind → behind ≡ list params ∷ more → w ≡ word_of n → IfErr r (NotRead (params_of n) params) → IfErr r (IsNoCommand x)
 no_command (Ok c) x parts behind more params w n e h m is k = tt
 no_command (Err f) x parts behind more params w n e h m is k = not_begun x parts behind more params w n f e h m is k
+
+-- ---- the sum of a base
+
+abbrev word_in : Item → List ℕ
+word_in (Nested (Then (Word w) more)) = w
+word_in _ = []
+
+abbrev second_in : Item → Item
+second_in (Nested (Then w (Then (Nested (Then x (Then y ps))) rest))) = y
+second_in _ = Word []
+
+sum_nested : (sum : Option (List ℕ)) (x : Item) → IsSum sum x → (s : Items) × (x ≡ Nested s)
+sum_nested None x e = (row [], e)
+sum_nested (Some s) x h = (row (Text h.0 ∷ h.1), h.3)
+
+-- an `apply-textdelta` with a sum
+pub text_with_sum : (t : Vec ℕ Global) (sum : Option (List ℕ)) (old mid new : List Item) → old ≡ Text t.items ∷ mid → NextIs (IsSum sum) mid new → FormsWith (command.TextStart t) name.ApplyTextdelta old × SaysSumWith sum name.ApplyTextdelta old
+text_with_sum t sum old mid new e n =
+    let k = sum_nested sum n.item n.is in
+    let all : old ≡ Text t.items ∷ n.item ∷ new = e ∙ ap (λ l. Text t.items ∷ l) n.joined in (
+      λ rest. (k.0, named2 e (n.joined ∙ ap (λ y. y ∷ new) k.1) rest),
+      λ rest u s c.
+          let here : second_in (list (Word (word_of name.ApplyTextdelta) ∷ list old ∷ rest)) ≡ n.item = ap (λ l. second_in (list (Word (word_of name.ApplyTextdelta) ∷ list l ∷ rest))) all in
+          subst (IsSum sum) (sym here ∙ ap second_in c.2) n.is,
+    )
+
+-- no other command has one
+pub other_sum : (n : Name) (params : List Item) → (n ≡ name.ApplyTextdelta → ⊥) → SaysSumWith None n params
+other_sum n params other = λ rest t s c. absurd (other (same_word n name.ApplyTextdelta (ap word_in c.2)))
+
+-- what is no command is none with a sum
+pub no_delta : (x : Item) (f : ShapeFault) → IsNoCommand x f → IsNoDelta x f
+no_delta x shape.OutOfMemory h = tt
+no_delta x shape.BadShape h = λ c sum k says. h c k
+
+begins_with_sum : (sum : Option (List ℕ)) (x : Item) (params rest : List Item) → x ≡ list (Word (word_of name.ApplyTextdelta) ∷ list params ∷ rest) → SaysSum x sum → BeginWith (AText ∷ AList ∷ []) params → BeginWith (AText ∷ ASum ∷ []) params
+begins_with_sum sum x [] rest e says b = b
+begins_with_sum sum x (y ∷ []) rest e says b = b
+begins_with_sum sum x (y ∷ z ∷ more) rest e says b =
+    let params : list (y ∷ z ∷ more) ≡ list (Text b.0.0 ∷ Nested (row b.1.0.0) ∷ more) = ap (λ a. list (a ∷ z ∷ more)) b.0.1 ∙ ap (λ a. list (Text b.0.0 ∷ a ∷ more)) b.1.0.1 in
+    let is : IsSum sum (Nested (row b.1.0.0)) = says b.0.0 (row b.1.0.0) (more, rest, e ∙ ap (λ l. list (Word (word_of name.ApplyTextdelta) ∷ l ∷ rest)) params) in
+    (b.0, ((sum, subst (IsSum sum) (sym b.1.0.1) is), tt))
+
+no_text : (x : Item) (parts behind more params : List Item) (w : List ℕ) (f : ShapeFault) → x ≡ list parts → parts ≡ Word w ∷ behind → behind ≡ list params ∷ more → w ≡ word_of name.ApplyTextdelta → NotRead (AText ∷ ASum ∷ []) params f → IsNoDelta x f
+no_text x parts behind more params w shape.OutOfMemory e h m is k = tt
+no_text x parts behind more params w shape.BadShape e h m is k = λ c sum l says.
+    let d = formed c x l in
+    let all : x ≡ list (Word w ∷ list params ∷ more) = e ∙ ap list (h ∙ ap (λ b. Word w ∷ b) m) in
+    let same : Word w ∷ list params ∷ more ≡ whole d = same_list (Word w ∷ list params ∷ more) (whole d) (sym all ∙ d.is) in
+    let n : name.ApplyTextdelta ≡ d.name = same_word name.ApplyTextdelta d.name (sym is ∙ ap word_at same) in
+    let inner : params ≡ d.params = sym (row_back params) ∙ ap params_at same ∙ row_back d.params in
+    k (begins_with_sum sum x params more (all ∙ ap (λ v. list (Word v ∷ list params ∷ more)) is) says (subst (λ i. BeginWith (AText ∷ AList ∷ []) i) (sym inner) (subst (λ i. BeginWith (params_of i) d.params) (sym n) d.begin)))
+
+no_over : (x : Item) (parts behind more params : List Item) (w : List ℕ) (n : Name) (f : ShapeFault) → x ≡ list parts → parts ≡ Word w ∷ behind → behind ≡ list params ∷ more → w ≡ word_of n → NotRead (params_over n) params f → IsNoDelta x f
+no_over x parts behind more params w name.ApplyTextdelta f e h m is k = no_text x parts behind more params w f e h m is k
+no_over x parts behind more params w n f e h m is k = no_delta x f (not_begun x parts behind more params w n f e h m is k)
+
+pub no_delta_command : {T : Type 0} (r : Result T ShapeFault) (x : Item) (parts behind more params : List Item) (w : List ℕ) (n : Name) → x ≡ list parts → parts ≡ Word w ∷ behind → behind ≡ list params ∷ more → w ≡ word_of n → IfErr r (NotRead (params_over n) params) → IfErr r (IsNoDelta x)
+no_delta_command (Ok c) x parts behind more params w n e h m is k = tt
+no_delta_command (Err f) x parts behind more params w n e h m is k = no_over x parts behind more params w n f e h m is k
+
+-- a command with its sum, as its item says them
+pub forms_whole : {T E : Type 0} (c : T → Command) (s : T → Option (List ℕ)) (r : Result T E) (x : Item) (parts behind more params : List Item) (w : List ℕ) (n : Name) → x ≡ list parts → parts ≡ Word w ∷ behind → behind ≡ list params ∷ more → w ≡ word_of n → IfOk r (λ p. FormsWith (c p) n params × SaysSumWith (s p) n params) → IfOk r (λ p. Forms (c p) x × SaysSum x (s p))
+forms_whole c s (Err f) x parts behind more params w n e h m is k = tt
+forms_whole c s (Ok p) x parts behind more params w n e h m is k =
+    let all : x ≡ list (Word (word_of n) ∷ list params ∷ more) = e ∙ ap list (h ∙ ap (λ b. Word w ∷ b) m) ∙ ap (λ v. list (Word v ∷ list params ∷ more)) is in
+    (subst (Forms (c p)) (sym all) (k.0 more), subst (λ y. SaysSum y (s p)) (sym all) (k.1 more))

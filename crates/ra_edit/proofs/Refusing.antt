@@ -32,7 +32,7 @@ last_behind : {A : Type 0} (x : A) (xs : List A) → (xs ≡ []) ⊎ ((front : L
 last_behind x xs (inl e) = ([], x, ap (λ l. x ∷ l) e)
 last_behind x xs (inr k) = (x ∷ k.0, k.1, ap (λ l. x ∷ l) k.2)
 
-last_or_none : {A : Type 0} (xs : List A) → (xs ≡ []) ⊎ ((front : List A) × (y : A) × (xs ≡ front ++ y ∷ []))
+pub last_or_none : {A : Type 0} (xs : List A) → (xs ≡ []) ⊎ ((front : List A) × (y : A) × (xs ≡ front ++ y ∷ []))
 last_or_none [] = inl refl
 last_or_none (x ∷ xs) = inr (last_behind x xs (last_or_none xs))
 

@@ -1,5 +1,5 @@
 -- Where the commands of a drive stand, and what was given of an open file's text.
-use Rattle.std.specs.Prelude.{◌++◌, ◌≡◌, ℕ, Bool, true, false, List, [], ◌∷◌, map, reverse, Option, Some, None}
+use Rattle.std.specs.Prelude.{◌++◌, ◌≡◌, ℕ, Bool, true, false, List, [], ◌∷◌, map, reverse, MatchOption, Option, Some, None}
 use Rattle.md5.specs.Md5.{Holds, md5}
 use Rattle.svndiff.specs.Reading.{is_between}
 use Rattle.svndiff.specs.declared.reading.Reading.{Reading}
@@ -44,6 +44,11 @@ abbrev pub GivenIs : Given → Held → Type 0
 GivenIs given.Nothing held = held ≡ Fresh
 GivenIs (given.Begun reader sum) held = (text : List ℕ) × (held ≡ Within text reader) × Holds sum text
 GivenIs (given.Whole sum) held = (text : List ℕ) × (held ≡ Told text) × (sum ≡ md5 text)
+
+-- a text has begun and not ended
+abbrev pub IsGivenText : Given → Type 0
+IsGivenText (given.Begun reader sum) = Unit {0}
+IsGivenText _ = ⊥
 
 -- what is open: a file perhaps, and the directories around it
 abbrev pub OpenIs : {D F : Type 0} → (D → Path) → (F → Path) → List (OpenDir D) → Option (OpenFile F) → List Named → Type 0
@@ -130,6 +135,14 @@ RefusedAs dir_path file_path e c f = (at : At) → StandsAt dir_path file_path e
 -- the editor refuses one of the calls that it asks for
 abbrev pub MetAs : {E D F T O : Type 0} → (D → Path) → (F → Path) → (E → List Call → Type 0) → (E → O) → (O → List Call → Call → EditorFault → Type 0) → Edit E T D F → Command → EditorFault → Type 0
 MetAs dir_path file_path shows began refuses e c f = (at : At) → StandsAt dir_path file_path e at → Meets shows began refuses e.editor at c f
+
+-- the text so far of the file that is open, as the editor has it; the empty one where none is
+abbrev pub IsBase : {E D F T O : Type 0} → (E → List Call → Type 0) → (E → O) → (F → Path) → (O → List Call → Path → List ℕ → Type 0) → Edit E T D F → List ℕ → Type 0
+IsBase shows texts file_path has_text e text = MatchOption e.file (text ≡ []) (λ f. (calls : List Call) → shows e.editor calls → has_text (texts e.editor) calls (file_path f.baton) text)
+
+-- the innermost open thing is a file in its text, by this token
+abbrev pub IsInText : List ℕ → At → Type 0
+IsInText t at = (p : Path) × (text : List ℕ) × (r : Reading) × (os : List Named) × (at ≡ Inside (named t p (Within text r) ∷ os))
 
 -- ---- what is open after a refusal
 

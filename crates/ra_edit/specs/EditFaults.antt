@@ -10,6 +10,8 @@ use Rattle.ra_edit.specs.declared.edit_fault.EditFault.{EditFault}
 use Rattle.ra_edit.specs.declared.edit_fault.EditFault.TheVariants as fault
 use Rattle.ra_edit.specs.declared.shape_fault.ShapeFault.{ShapeFault}
 use Rattle.ra_edit.specs.declared.shape_fault.ShapeFault.TheVariants as shape
+use Rattle.svndiff.specs.declared.delta_fault.DeltaFault.{DeltaFault}
+use Rattle.svndiff.specs.declared.delta_fault.DeltaFault.TheVariants as delta
 use Rattle.svndiff.specs.declared.fault.WindowFault.{WindowFault}
 use Rattle.svndiff.specs.declared.fault.WindowFault.TheVariants as window
 
@@ -45,6 +47,13 @@ of_window window.TooLong = command.TooLong
 of_window window.Failed = command.Failed
 of_window window.BadWindow = command.BadWindow
 of_window window.CopyWindow = command.CopyWindow
+
+-- the refusal of bytes that are no delta
+abbrev pub of_delta : DeltaFault → CommandFault
+of_delta delta.TooLong = command.TooLong
+of_delta delta.Failed = command.Failed
+of_delta delta.BadWindow = command.BadWindow
+of_delta delta.OutOfMemory = command.OutOfMemory
 
 -- the refusal of an item that is no command
 abbrev pub of_shape : ShapeFault → CommandFault

@@ -2,6 +2,8 @@ pub mod Names
 pub mod Commands
 pub mod EditLaws
 pub mod Edits
+pub mod DeltaEdits
+pub mod Differences
 pub mod EditFaults
 pub mod Receiving
 pub mod Edit

@@ -55,6 +55,11 @@ abbrev pub at_start : Held → Option CommandFault
 at_start Fresh = None
 at_start _ = Some fault.BadShape
 
+-- in its text
+abbrev pub at_text : Held → Option CommandFault
+at_text (Within text r) = None
+at_text _ = Some fault.BadShape
+
 abbrev pub of_stream : Stream → Option CommandFault
 of_stream (Reads text r) = None
 of_stream (Refuses text f) = Some (of_window f)

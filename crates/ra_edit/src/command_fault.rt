@@ -1,11 +1,12 @@
 //! Why a command of a drive isn't done.
 
 ghost use Rattle.std.specs.Prelude.{◌≡◌};
-ghost use Rattle.ra_edit.specs.EditFaults.{of_window};
+ghost use Rattle.ra_edit.specs.EditFaults.{of_window, of_delta};
 ghost use Rattle.ra_edit.specs.declared.command_fault.CommandFault.TheVariants as fault;
 
 use delta_editor::EditorFault;
 use std::alloc::{AllocError, AllocFailed};
+use svndiff::delta_fault::DeltaFault;
 use svndiff::fault::WindowFault;
 use thiserror::Error;
 
@@ -70,6 +71,19 @@ impl From<WindowFault> for CommandFault {
             WindowFault::Failed => CommandFault::Failed,
             WindowFault::BadWindow => CommandFault::BadWindow,
             WindowFault::CopyWindow => CommandFault::CopyWindow,
+        }
+    }
+}
+
+impl From<DeltaFault> for CommandFault {
+    ghost from_gives = { λ f e. e ≡ of_delta f };
+
+    fn from(fault: DeltaFault) -> CommandFault {
+        match fault {
+            DeltaFault::TooLong => CommandFault::TooLong,
+            DeltaFault::Failed => CommandFault::Failed,
+            DeltaFault::BadWindow => CommandFault::BadWindow,
+            DeltaFault::OutOfMemory => CommandFault::OutOfMemory,
         }
     }
 }

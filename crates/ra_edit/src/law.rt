@@ -2,9 +2,10 @@
 
 ghost use Rattle.ra_edit.specs.EditLaws.{WrittenIsEdit, OneEdit, EndsOnce, WrittenIsTaken, WrittenIsReceived};
 ghost use Rattle.ra_edit.specs.EditLaws.{WrittenComes, SaysSomeCommand, WrittenIsNotRefused};
+ghost use Rattle.ra_edit.specs.Differences.{DeltasAreWhole};
 ghost use Rattle.ra_edit.specs.Refusals.{NothingDue};
 
-use delta_editor::Editor;
+use delta_editor::{Editor, TextEditor};
 pub use svndiff::law::{
     one_text, pieces_join, read_is_text, texts_are_read, written_is_read, written_is_text,
 };
@@ -25,6 +26,11 @@ pub fn one_edit()
 #[tactic(auto, using(crate::proofs::OneEdit::ends_once))]
 pub fn ends_once()
     ensures { EndsOnce }
+{}
+
+/// An edit whose texts come as differences is the calls of one in which they come whole.
+pub fn deltas_are_whole<E: TextEditor>()
+    ensures { (texts : E.Texts) → DeltasAreWhole (E.has_text texts) }
 {}
 
 /// An item that is an edit's next, where the commands stand, is refused for nothing that it says.

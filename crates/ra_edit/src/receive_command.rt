@@ -8,6 +8,7 @@ ghost use Rattle.node_base.specs.PathText.{path_read};
 ghost use Rattle.node_base.specs.Props.{prop_name_read};
 ghost use Rattle.ra_edit.specs.Commands.{list};
 ghost use Rattle.ra_edit.specs.Edits.{IsRevision, IsString, IsSum, IsSource};
+ghost use Rattle.ra_edit.specs.Differences.{SaysSum, SaysSumWith, IsNoDelta, params_over};
 ghost use Rattle.ra_edit.specs.Receiving.{left_of, NextIs, IsPath, IsPropName, Forms, FormsWith, AWord, AText, AList};
 ghost use Rattle.ra_edit.specs.Receiving.{ARevision, APath, APropName, ABase, AValue, ASum, ASource, NotRead};
 ghost use Rattle.ra_edit.specs.Receiving.{params_of, IsNoCommand};
@@ -267,6 +268,54 @@ impl Command {
             None => Err(ShapeFault::BadShape),
         }
     }
+
+    /// The command that an item is, and the sum that an `apply-textdelta` has of the text from which a difference
+    /// follows; none where it has none, and for any other command. Errors as [`Command::parse`], and `BadShape` (48)
+    /// where what stands for the sum is none.
+    pub fn parse_over_base(
+        alloc: Global,
+        item: Item,
+    ) -> Result<(Command, Option<[u8; 16]>), ShapeFault>
+        ensures forms { IfOk result (λ p. Forms p.0 item × SaysSum item p.1) }
+        ensures none { IfErr result (IsNoDelta item) }
+    {
+        let mut parts = Params::of(item)?;
+        let word = parts.word()?;
+        let mut params = parts.list()?;
+        match Name::any(word.as_slice()) {
+            Some(name) => over_base(alloc, name, &mut params),
+            None => Err(ShapeFault::BadShape),
+        }
+    }
+}
+
+// The command that a name and its parameters are, and the sum of a base where it is an `apply-textdelta` that has one.
+fn over_base(
+    alloc: Global,
+    name: Name,
+    params: &mut Params,
+) -> Result<(Command, Option<[u8; 16]>), ShapeFault>
+    ensures forms { IfOk result (λ p. FormsWith p.0 name (left_of params.old)
+        × SaysSumWith p.1 name (left_of params.old)) }
+    ensures none { IfErr result (NotRead (params_over name) (left_of params.old)) }
+{
+    if let Name::ApplyTextdelta = name {
+        return text_over_base(params);
+    }
+    match any_command(alloc, name, params) {
+        Ok(command) => Ok((command, None)),
+        Err(fault) => Err(fault),
+    }
+}
+
+fn text_over_base(params: &mut Params) -> Result<(Command, Option<[u8; 16]>), ShapeFault>
+    ensures forms { IfOk result (λ p. FormsWith p.0 word.ApplyTextdelta (left_of params.old)
+        × SaysSumWith p.1 word.ApplyTextdelta (left_of params.old)) }
+    ensures none { IfErr result (NotRead (params_over word.ApplyTextdelta) (left_of params.old)) }
+{
+    let token = params.text()?;
+    let sum = params.sum()?;
+    Ok((Command::TextStart(token), sum))
 }
 
 fn any_command(alloc: Global, name: Name, params: &mut Params) -> Result<Command, ShapeFault>

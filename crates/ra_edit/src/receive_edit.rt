@@ -16,23 +16,23 @@ ghost use Rattle.ra_edit.specs.Edits.{Held, At, Begun, is_free, last_calls, With
 ghost use Rattle.ra_edit.specs.Names.{word_of};
 ghost use Rattle.ra_edit.specs.declared.name.Name.TheVariants as word;
 ghost use Rattle.ra_edit.specs.Receiving.{Forms};
-ghost use Rattle.ra_edit.specs.Refusals.{open_of, unless, is_in_dir, has_dir, for_token, in_file, at_start, of_stream};
+ghost use Rattle.ra_edit.specs.Refusals.{open_of, unless, is_in_dir, has_dir, for_token, in_file, at_start, at_text, behind_end, of_stream};
 ghost use Rattle.ra_edit.specs.Refusals.{at_chunk, at_end, at_close, is_finish, due, refusal, RefusedFor, ReadFirst};
 ghost use Rattle.ra_edit.specs.Refusals.{RefusesOne, Meets, IfOwn};
 ghost use Rattle.ra_edit.specs.declared.command_fault.CommandFault.{CommandFault};
 ghost use Rattle.ra_edit.specs.declared.command_fault.CommandFault.TheVariants as fault;
 ghost use Rattle.ra_edit.specs.Edit.{StandsAt, Performs, RefusedAs, MetAs, GivenIs, dirs_named, is_unopened, is_announced, has_root, dir_paths, TextEnds};
-ghost use Rattle.ra_edit.specs.Edit.{SumIs, FileMoves, Stepped, Finishes, all_open, LeavesOpen, GivesUp};
+ghost use Rattle.ra_edit.specs.Edit.{SumIs, FileMoves, IsBase, IsGivenText, IsInText, Stepped, Finishes, all_open, LeavesOpen, GivesUp};
 ghost use Rattle.ra_edit.specs.declared.receive_command.Command.TheVariants as command;
 ghost use Rattle.ra_edit.specs.declared.receive_edit.Given.TheVariants as given;
 
 use crate::command_fault::CommandFault;
 use crate::receive_command::Command;
 use crate::receive_text::take_chunk;
-use delta_editor::{Editor, EditorFault};
+use delta_editor::{Editor, EditorFault, TextEditor};
 use md5::{Digest, Md5};
-use node_base::{NodePath, PropName, RevNo, Source};
-use std::alloc::Global;
+use node_base::{NodePath, PropName, RevNo, Source, Text};
+use std::alloc::{AllocError, Global};
 use std::cmp::Ordering;
 use std::mem;
 use svndiff::reader::WindowReader;
@@ -174,8 +174,8 @@ impl<E: Editor> Edit<E> {
         Ok(())
     }
 
-    // Whether the end was announced.
-    fn is_announced(&self) -> bool
+    /// Whether the end was announced.
+    pub fn is_announced(&self) -> bool
         ensures { result ≡ is_announced self.now.stage }
     {
         match self.stage {
@@ -466,7 +466,8 @@ impl<E: Editor> Edit<E> {
         Ok(())
     }
 
-    fn text_start(&mut self, token: Vec<u8>) -> Result<(), CommandFault>
+    /// Begins the text of the open file, which has this token and none yet.
+    pub fn text_start(&mut self, token: Vec<u8>) -> Result<(), CommandFault>
         ensures moved { OnOk result (Performs E.dir_path E.file_path E.shows self.old self.new (command.TextStart token)) }
         ensures refused { IfErr result (RefusedAs E.dir_path E.file_path self.old (command.TextStart token)) }
         ensures own { IfErr result (IfOwn (MetAs E.dir_path E.file_path E.shows E.began E.refuses self.old (command.TextStart token))) }
@@ -480,7 +481,8 @@ impl<E: Editor> Edit<E> {
         Ok(())
     }
 
-    fn chunk(&mut self, token: Vec<u8>, bytes: Vec<u8>) -> Result<(), CommandFault>
+    /// Takes bytes of the text of the open file, which has this token.
+    pub fn chunk(&mut self, token: Vec<u8>, bytes: Vec<u8>) -> Result<(), CommandFault>
         ensures moved { OnOk result (Performs E.dir_path E.file_path E.shows self.old self.new (command.Chunk token bytes)) }
         ensures refused { IfErr result (RefusedAs E.dir_path E.file_path self.old (command.Chunk token bytes)) }
         ensures own { IfErr result (IfOwn (MetAs E.dir_path E.file_path E.shows E.began E.refuses self.old (command.Chunk token bytes))) }
@@ -494,7 +496,8 @@ impl<E: Editor> Edit<E> {
         Ok(())
     }
 
-    fn text_end(&mut self, token: Vec<u8>) -> Result<(), CommandFault>
+    /// Ends the text of the open file, which has this token.
+    pub fn text_end(&mut self, token: Vec<u8>) -> Result<(), CommandFault>
         ensures moved { OnOk result (Performs E.dir_path E.file_path E.shows self.old self.new (command.TextEnd token)) }
         ensures refused { IfErr result (RefusedAs E.dir_path E.file_path self.old (command.TextEnd token)) }
         ensures own { IfErr result (IfOwn (MetAs E.dir_path E.file_path E.shows E.began E.refuses self.old (command.TextEnd token))) }
@@ -506,6 +509,22 @@ impl<E: Editor> Edit<E> {
         };
         close_text(&mut self.editor, file, token)?;
         Ok(())
+    }
+
+    /// Whether the open file, which has this token, is in its text.
+    pub fn check_text(&self, token: &[u8]) -> Result<(), CommandFault>
+        ensures in_text { OnOk result ((at : At) → StandsAt E.dir_path E.file_path self.now at → IsInText token.now at) }
+        ensures refused { IfErr result (λ f. (at : At) → StandsAt E.dir_path E.file_path self.now at
+            → RefusedFor f (behind_end at (in_file token.now (open_of at) at_text))) }
+        ensures own { IfErr result (IfOwn (λ f. ⊥)) }
+    {
+        if self.is_announced() {
+            return Err(CommandFault::BadShape);
+        }
+        let Some(file) = &self.file else {
+            return Err(CommandFault::BadToken);
+        };
+        check_given(file, token)
     }
 
     fn close_file(&mut self, token: Vec<u8>, sum: Option<[u8; 16]>) -> Result<(), CommandFault>
@@ -679,6 +698,18 @@ impl<E: Editor> Edit<E> {
     }
 }
 
+impl<E: TextEditor> Edit<E> {
+    /// The text so far of the file that is open; the empty one where none is.
+    pub fn base(&self, alloc: Global) -> Result<Text, AllocError>
+        ensures { IfOk result (IsBase E.shows E.texts E.file_path E.has_text self.now) }
+    {
+        match &self.file {
+            Some(file) => self.editor.text_so_far(&file.baton),
+            None => Text::empty(alloc),
+        }
+    }
+}
+
 // The editor, once these directories are discarded, the last one first.
 fn discard_dirs<E: Editor>(editor: E, dirs: Vec<OpenDir<E::Dir>>) -> E
     ensures shown { StaysShown E.shows editor result }
@@ -722,6 +753,22 @@ fn show_root<E: Editor>(editor: &mut E) -> Result<(), EditorFault>
     let root = editor.open_root(None)?;
     editor.close_dir(root)?;
     Ok(())
+}
+
+// Whether the open file, which has this token, is in its text.
+fn check_given<F>(file: &OpenFile<F>, token: &[u8]) -> Result<(), CommandFault>
+    ensures in_text { OnOk result (IsGivenText file.now.given × (file.now.token.items ≡ token.now)) }
+    ensures refused { IfErr result (λ f. (held : Held) → GivenIs file.now.given held
+        → RefusedFor f (for_token token.now file.now.token.items (at_text held))) }
+    ensures own { IfErr result (IfOwn (λ f. ⊥)) }
+{
+    if !is_same(file.token.as_slice(), token) {
+        return Err(CommandFault::BadToken);
+    }
+    match &file.given {
+        Given::Begun(_, _) => Ok(()),
+        Given::Nothing | Given::Whole(_) => Err(CommandFault::BadShape),
+    }
 }
 
 // Gives a property of the open file, which has this token, a value, or removes it.
