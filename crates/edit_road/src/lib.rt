@@ -5,4 +5,5 @@
 
 pub mod law;
 pub mod receive;
+pub mod receive_deltas;
 pub mod send;
