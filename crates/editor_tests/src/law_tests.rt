@@ -21,5 +21,6 @@ fn laws_are_called(rt: HostRuntime) {
     law::written_is_not_refused::<delta_editor::Recorder>();
     law::says_some_command();
     law::nothing_due();
+    law::deltas_are_whole::<editor_ends::BuildEditor>();
     assert!(rt; WindowFault::CopyWindow.number() == 45);
 }

@@ -13,6 +13,8 @@ mod checked;
 #[cfg(test)]
 mod counting_tests;
 #[cfg(test)]
+mod delta_tests;
+#[cfg(test)]
 mod drive_tests;
 #[cfg(test)]
 mod edit_growth_tests;
