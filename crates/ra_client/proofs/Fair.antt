@@ -18,9 +18,9 @@ use Rattle.ra_edit.specs.declared.edit_fault.EditFault.TheVariants as edit
 use Rattle.ra_client.specs.Faults.{of_next}
 use Rattle.ra_wire.specs.Commands.{Command, LatestRev, RevProplist, ReplayRange}
 use Rattle.ra_wire.specs.Requests.{hello, anonymous, command_item}
-use Rattle.ra_client.specs.Exchanges.{Asks, AsksLatest, AsksProps, AsksRevision, TakesRevision, LogsIn, Opens}
+use Rattle.ra_client.specs.Exchanges.{Asks, AsksDeltas, AsksLatest, AsksProps, AsksRevision, TakesDeltaRevision, TakesRevision, LogsIn, Opens}
 use Rattle.ra_client.specs.Said.{Reply, Repository, never, same, authorised_said, done_said, number_said, proplist_said, proplist_past, revprops_said, revprops_past, greeting_said, asks_said, welcome_said}
-use Rattle.ra_client.specs.Steps.{Follows, Stopped, Went, Gives, IsIdle, OnInput, OnOutput, TakesItem, TakesWithin, OfItem, OfEnd, OfStream, TakesEdit, Sends, IsUnwritten, counts_of, IsLater}
+use Rattle.ra_client.specs.Steps.{Follows, Stopped, Went, Gives, IsIdle, OnInput, OnOutput, TakesItem, TakesWithin, OfItem, OfEnd, OfStream, TakesDeltas, TakesEdit, Sends, IsUnwritten, counts_of, IsLater}
 use Rattle.ra_client.specs.Ports.{FailsMeanwhile, TellsPeer}
 use Rattle.ra_client.specs.declared.fault.ClientFault.{ClientFault}
 use Rattle.ra_client.specs.declared.fault.ClientFault.TheVariants as fault
@@ -106,6 +106,12 @@ edit_fair trees old new (Err (fault.Edit e)) h = record { later = tt; peer = λ 
 edit_fair trees old new (Err fault.Refused) h = absurd h.0
 edit_fair trees old new (Err fault.BadAnswer) h = absurd h.0
 
+deltas_fair : {R : Type 0} {g : InputGhosts R} (trees : List PathMap) → AreFair {S = ItemStream R g} LaterIn FailsIn (TakesDeltas trees)
+deltas_fair trees old new (Ok applied) h = record { later = h.1.later; peer = tt }
+deltas_fair trees old new (Err (fault.Edit e)) h = record { later = tt; peer = λ told. let d : e ≡ edit.PeerFailed = cc in h.0.1 d }
+deltas_fair trees old new (Err fault.Refused) h = absurd h.0
+deltas_fair trees old new (Err fault.BadAnswer) h = absurd h.0
+
 -- ---- on an input and an output
 
 abbrev LaterOn : {R O : Type 0} {g : InputGhosts R} {h : OutputGhosts O} → ItemStream R g × Sink O h → ItemStream R g × Sink O h → Type 0
@@ -156,6 +162,12 @@ revision_fair trees = follows_fair LaterIn FailsIn _ _ joins_in (within_fair sam
 
 pub revision_tells : {R O : Type 0} {g : InputGhosts R} {h : OutputGhosts O} (n : ℕ) (trees : List PathMap) (old new : ItemStream R g × Sink O h) (r : Result (Applied × PropMap) ClientFault) → AsksRevision n trees old new r → TellsPeer old new r
 revision_tells n trees old new r k = (asks_fair (ReplayRange n n) _ (revision_fair trees) old new r k).peer
+
+delta_revision_fair : {R : Type 0} {g : InputGhosts R} (trees : List PathMap) → AreFair {S = ItemStream R g} LaterIn FailsIn (TakesDeltaRevision trees)
+delta_revision_fair trees = follows_fair LaterIn FailsIn _ _ joins_in (within_fair same revprops_said revprops_past) (λ props. follows_fair LaterIn FailsIn _ _ joins_in (deltas_fair trees) (λ applied. gives_fair LaterIn FailsIn _ (applied, props) (item_fair same done_said)))
+
+pub deltas_tells : {R O : Type 0} {g : InputGhosts R} {h : OutputGhosts O} (n : ℕ) (trees : List PathMap) (old new : ItemStream R g × Sink O h) (r : Result (Applied × PropMap) ClientFault) → AsksDeltas n trees old new r → TellsPeer old new r
+deltas_tells n trees old new r k = (asks_fair (ReplayRange n n) _ (delta_revision_fair trees) old new r k).peer
 
 logs_fair : {R O : Type 0} {g : InputGhosts R} {h : OutputGhosts O} (asks : Bool) → AreFair {S = ItemStream R g × Sink O h} LaterOn FailsOn (LogsIn asks)
 logs_fair false = idle

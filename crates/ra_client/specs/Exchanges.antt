@@ -11,7 +11,7 @@ use Rattle.ra_item.specs.declared.stream.ItemStream.{ItemStream}
 use Rattle.ra_wire.specs.Commands.{Command, LatestRev, RevProplist, ReplayRange}
 use Rattle.ra_wire.specs.Requests.{hello, anonymous, command_item}
 use Rattle.ra_client.specs.Said.{Repository, authorised_said, done_said, number_said, proplist_said, proplist_past, revprops_said, revprops_past, greeting_said, asks_said, welcome_said, same}
-use Rattle.ra_client.specs.Steps.{Follows, Gives, IsIdle, OnInput, OnOutput, TakesItem, TakesEdit, TakesWithin, Sends}
+use Rattle.ra_client.specs.Steps.{Follows, Gives, IsIdle, OnInput, OnOutput, TakesDeltas, TakesItem, TakesEdit, TakesWithin, Sends}
 use Rattle.ra_client.specs.declared.fault.ClientFault.{ClientFault}
 
 -- ---- commands and their answers
@@ -44,6 +44,16 @@ TakesRevision trees = Follows (TakesWithin same revprops_said revprops_past) (Ta
 
 abbrev pub AsksRevision : {R O : Type 0} {g : InputGhosts R} {h : OutputGhosts O} → ℕ → List PathMap → ItemStream R g × Sink O h → ItemStream R g × Sink O h → Result (Applied × PropMap) ClientFault → Type 0
 AsksRevision n trees = Asks (ReplayRange n n) (TakesRevision trees)
+
+-- the same of an edit whose texts come as differences
+abbrev pub TakesDeltaSet : {R : Type 0} {g : InputGhosts R} → List PathMap → PropMap → ItemStream R g → ItemStream R g → Result (Applied × PropMap) ClientFault → Type 0
+TakesDeltaSet trees props = Follows (TakesDeltas trees) (λ applied. Gives (TakesItem same done_said) (applied, props))
+
+abbrev pub TakesDeltaRevision : {R : Type 0} {g : InputGhosts R} → List PathMap → ItemStream R g → ItemStream R g → Result (Applied × PropMap) ClientFault → Type 0
+TakesDeltaRevision trees = Follows (TakesWithin same revprops_said revprops_past) (TakesDeltaSet trees)
+
+abbrev pub AsksDeltas : {R O : Type 0} {g : InputGhosts R} {h : OutputGhosts O} → ℕ → List PathMap → ItemStream R g × Sink O h → ItemStream R g × Sink O h → Result (Applied × PropMap) ClientFault → Type 0
+AsksDeltas n trees = Asks (ReplayRange n n) (TakesDeltaRevision trees)
 
 -- ---- the opening
 

@@ -1,3 +1,4 @@
+pub mod Deltas
 pub mod Exchanges
 pub mod Faults
 pub mod Found

@@ -15,7 +15,7 @@ use Rattle.ra_item.specs.ItemStreams.{Takes, Ends, Stops, reader_of, meanwhile, 
 use Rattle.ra_item.specs.declared.fault.NextFault.{NextFault}
 use Rattle.ra_item.specs.declared.stream.ItemStream.{ItemStream}
 use Rattle.ra_edit.specs.declared.edit_fault.EditFault.TheVariants as edit
-use Rattle.edit_road.specs.Receiving.{IsNextEdit, Receives, Refuses, RefusesEdit}
+use Rattle.edit_road.specs.Receiving.{IsNextEdit, IsNextOfDeltas, Receives, Refuses, RefusesEdit, RefusesNextOfDeltas}
 use Rattle.ra_client.specs.Faults.{of_next}
 use Rattle.ra_client.specs.Said.{Reply, ToldWithin, never}
 use Rattle.ra_client.specs.declared.fault.ClientFault.{ClientFault}
@@ -80,6 +80,15 @@ IsEdit trees old new (Err f) = ⊥
 
 abbrev pub TakesEdit : {R : Type 0} {g : InputGhosts R} → List PathMap → ItemStream R g → ItemStream R g → Result Applied ClientFault → Type 0
 TakesEdit trees old new result = IsEdit trees old new result × Goes old new result
+
+-- the next items are an edit whose texts come as differences, of which this set is made over these trees; or they aren't
+abbrev pub IsDeltas : {R : Type 0} {g : InputGhosts R} → List PathMap → ItemStream R g → ItemStream R g → Result Applied ClientFault → Type 0
+IsDeltas {R} {g} trees old new (Ok a) = IsNextOfDeltas g.remaining trees old new a.set
+IsDeltas {R} {g} trees old new (Err (fault.Edit e)) = RefusesNextOfDeltas g.remaining g.failures g.reads trees old new e × (e ≡ edit.PeerFailed → Fails (counts_of old new))
+IsDeltas trees old new (Err f) = ⊥
+
+abbrev pub TakesDeltas : {R : Type 0} {g : InputGhosts R} → List PathMap → ItemStream R g → ItemStream R g → Result Applied ClientFault → Type 0
+TakesDeltas trees old new result = IsDeltas trees old new result × Goes old new result
 
 -- ---- writing
 

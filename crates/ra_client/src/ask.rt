@@ -6,13 +6,14 @@ ghost use Rattle.std.specs.Io.KnownBytes.{Appends};
 ghost use Rattle.byte_streams.specs.Sinks.{inner_of};
 ghost use Rattle.ra_wire.specs.Commands.{command_as};
 ghost use Rattle.ra_client.specs.Exchanges.{SendsCommand, TakesAnswer, TakesRevision, TakesSet, AsksLatest, AsksProps};
-ghost use Rattle.ra_client.specs.Exchanges.{AsksRevision};
+ghost use Rattle.ra_client.specs.Exchanges.{AsksRevision, AsksDeltas, TakesDeltaRevision, TakesDeltaSet};
 ghost use Rattle.ra_client.specs.Said.{number_said, proplist_said, proplist_past, done_said, same};
 ghost use Rattle.ra_client.specs.Steps.{Sends, Gives, TakesItem, TakesWithin, IsHandedOn, IsFlushed};
 
 use crate::fault::ClientFault;
 use crate::take::{
     take_authorised, take_done, take_number, take_proplist, take_revprops, take_set,
+    take_set_of_deltas,
 };
 use byte_streams::{Input, Output, Sink};
 use dump_load::Applied;
@@ -199,6 +200,74 @@ fn take_end<I: Input + Drop>(
 {
     match take_done(items) {
         Ok(()) => Ok((applied, props)),
+        Err(fault) => Err(fault),
+    }
+}
+
+/// Asks for a revision as [`ask_revision`] does, but that its texts come as differences.
+pub fn ask_deltas<I: Input + Drop, O: Output + Drop>(
+    alloc: Global,
+    items: &mut ItemStream<I>,
+    out: &mut Sink<O>,
+    number: RevNo,
+    trees: &[Tree],
+) -> Result<(Applied, Props), ClientFault>
+    requires few { length trees.now ≤ 65535 }
+    ensures asked { AsksDeltas number trees.now (items.old, out.old) (items.new, out.new) result }
+    ensures makes { IfOk result (λ r. Makes trees.now r.0.set r.0.tree) }
+{
+    let only = as_written(number);
+    match send(out, &Command::ReplayRange(only, only)) {
+        Ok(()) => take_deltas(alloc, items, trees),
+        Err(fault) => Err(fault),
+    }
+}
+
+// Takes the answer to that.
+fn take_deltas<I: Input + Drop>(
+    alloc: Global,
+    items: &mut ItemStream<I>,
+    trees: &[Tree],
+) -> Result<(Applied, Props), ClientFault>
+    requires few { length trees.now ≤ 65535 }
+    ensures taken { TakesAnswer (TakesDeltaRevision trees.now) items.old items.new result }
+    ensures makes { IfOk result (λ r. Makes trees.now r.0.set r.0.tree) }
+{
+    match take_authorised(alloc, items) {
+        Ok(()) => take_delta_revision(alloc, items, trees),
+        Err(fault) => Err(fault),
+    }
+}
+
+// Takes the properties, and what stands behind them.
+fn take_delta_revision<I: Input + Drop>(
+    alloc: Global,
+    items: &mut ItemStream<I>,
+    trees: &[Tree],
+) -> Result<(Applied, Props), ClientFault>
+    requires few { length trees.now ≤ 65535 }
+    ensures taken { TakesDeltaRevision trees.now items.old items.new result }
+    ensures makes { IfOk result (λ r. Makes trees.now r.0.set r.0.tree) }
+{
+    match take_revprops(alloc, items) {
+        Ok(props) => take_delta_changes(alloc, items, trees, props),
+        Err(fault) => Err(fault),
+    }
+}
+
+// Takes the edit, and what stands behind it.
+fn take_delta_changes<I: Input + Drop>(
+    alloc: Global,
+    items: &mut ItemStream<I>,
+    trees: &[Tree],
+    props: Props,
+) -> Result<(Applied, Props), ClientFault>
+    requires few { length trees.now ≤ 65535 }
+    ensures taken { TakesDeltaSet trees.now props items.old items.new result }
+    ensures makes { IfOk result (λ r. Makes trees.now r.0.set r.0.tree) }
+{
+    match take_set_of_deltas(alloc, trees, items) {
+        Ok(applied) => take_end(items, applied, props),
         Err(fault) => Err(fault),
     }
 }

@@ -2,6 +2,7 @@
 //!
 //! [`ClientPort::open`] does the opening over any input and output; then [`ClientPort::latest`], [`ClientPort::fetch`]
 //! and [`ClientPort::fetch_props`] each send one command and take its answer, item by item. An edit is built as it comes.
+//! A [`DeltaPort`] is one whose server sends texts as differences.
 //!
 //! ```text
 //! let mut port = ClientPort::open(alloc, b"svn://127.0.0.1:3690/", input, output)?;
@@ -10,12 +11,14 @@
 //! ```
 #![tactic(auto)]
 
+pub use delta_port::DeltaPort;
 pub use fault::ClientFault;
 pub use port::ClientPort;
 pub use take::{take_authorised, take_done, take_revprops, take_set};
 
 mod answer;
 mod ask;
+mod delta_port;
 mod fault;
 mod master;
 mod opening;

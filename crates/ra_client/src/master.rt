@@ -70,7 +70,7 @@ impl<I: Input + Drop, O: Output + Drop> MasterPort for ClientPort<I, O> {
 }
 
 // The identity as a mirror's properties spell it.
-fn identity_text(alloc: Global, identity: &Uuid) -> Result<PropValue, AllocError>
+pub(crate) fn identity_text(alloc: Global, identity: &Uuid) -> Result<PropValue, AllocError>
     ensures { IfOk result (λ v. v ≡ hyphenated_text lower identity.now) }
 {
     let mut buffer = Uuid::encode_buffer();

@@ -4,7 +4,7 @@ ghost use Rattle.std.specs.Prelude.{◌≡◌, length, IfOk};
 ghost use Rattle.dump_load.specs.Trees.{Makes};
 ghost use Rattle.ra_client.specs.Faults.{over_after, over_by};
 
-use crate::ask::{ask_latest, ask_props, ask_revision};
+use crate::ask::{ask_deltas, ask_latest, ask_props, ask_revision};
 use crate::fault::ClientFault;
 use crate::opening::introduce;
 use byte_streams::{Input, Output, Sink};
@@ -36,7 +36,7 @@ pub struct ClientPort<I: Input + Drop, O: Output + Drop> {
 }
 
 impl<I: Input + Drop, O: Output + Drop> ClientPort<I, O> {
-    ghost use Rattle.ra_client.specs.Exchanges.{AsksLatest, AsksProps, AsksRevision};
+    ghost use Rattle.ra_client.specs.Exchanges.{AsksDeltas, AsksLatest, AsksProps, AsksRevision};
     ghost use Rattle.ra_client.specs.Ports.{repository_of, output_of, Calls, TellsPeerAnew, IsOpening};
     ghost use Rattle.ra_client.specs.Telling.{HearsNumber, HearsProps, HearsRevision};
 
@@ -114,6 +114,25 @@ impl<I: Input + Drop, O: Output + Drop> ClientPort<I, O> {
         written_is_taken();
         written_comes();
         let answer = ask_revision(self.alloc, &mut self.items, &mut self.out, number, trees);
+        self.over = over_after(&answer);
+        answer
+    }
+
+    /// What [`ClientPort::fetch`] gives, where the revision's texts come as differences.
+    pub fn fetch_deltas(
+        &mut self,
+        number: RevNo,
+        trees: &[Tree],
+    ) -> Result<(Applied, Props), ClientFault>
+        requires before { length trees.now ≡ number }
+        ensures call { Calls (AsksDeltas number trees.now) self.old self.new result }
+        ensures makes { IfOk result (λ r. Makes trees.now r.0.set r.0.tree) }
+        ensures peer { TellsPeerAnew self.old self.new result }
+    {
+        if let Some(fault) = self.over {
+            return Err(fault);
+        }
+        let answer = ask_deltas(self.alloc, &mut self.items, &mut self.out, number, trees);
         self.over = over_after(&answer);
         answer
     }

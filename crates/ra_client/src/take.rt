@@ -5,7 +5,7 @@ ghost use Rattle.dump_load.specs.Trees.{Makes};
 ghost use Rattle.ra_client.specs.Found.{repository_as};
 ghost use Rattle.ra_client.specs.Said.{authorised_said, done_said, number_said, proplist_said, revprops_said, same};
 ghost use Rattle.ra_client.specs.Said.{proplist_past, revprops_past, greeting_said, asks_said, welcome_said};
-ghost use Rattle.ra_client.specs.Steps.{TakesItem, TakesWithin, TakesEdit, IsComing};
+ghost use Rattle.ra_client.specs.Steps.{TakesDeltas, TakesItem, TakesWithin, TakesEdit, IsComing};
 
 use crate::answer;
 use crate::answer::Repository;
@@ -13,6 +13,7 @@ use crate::fault::ClientFault;
 use byte_streams::Input;
 use dump_load::Applied;
 use edit_road::receive::receive_set;
+use edit_road::receive_deltas::receive_set_of_deltas;
 use node_base::{Props, RevNo};
 use path_tree::Tree;
 use ra_item::item::Item;
@@ -100,6 +101,23 @@ pub fn take_set<I: Input + Drop>(
     ensures makes { IfOk result (λ a. Makes trees.now a.set a.tree) }
 {
     match receive_set(alloc, trees, items) {
+        Ok(applied) => Ok(applied),
+        Err(fault) => Err(ClientFault::from(fault)),
+    }
+}
+
+/// Takes a revision's edit whose texts come as differences, as the set that it makes over the trees before it, with the
+/// tree that the set makes.
+pub fn take_set_of_deltas<I: Input + Drop>(
+    alloc: Global,
+    trees: &[Tree],
+    items: &mut ItemStream<I>,
+) -> Result<Applied, ClientFault>
+    requires few { length trees.now ≤ 65535 }
+    ensures taken { TakesDeltas trees.now items.old items.new result }
+    ensures makes { IfOk result (λ a. Makes trees.now a.set a.tree) }
+{
+    match receive_set_of_deltas(alloc, trees, items) {
         Ok(applied) => Ok(applied),
         Err(fault) => Err(ClientFault::from(fault)),
     }
