@@ -1,16 +1,15 @@
 -- A run over a session, whatever it is over.
 use Rattle.std.proofs.Common.{List, ℕ, Option, Result}
-use Rattle.byte_streams.specs.declared.input.Input.{Ghosts as InputGhosts}
-use Rattle.byte_streams.specs.declared.output.Output.{Ghosts as OutputGhosts}
 use Rattle.fleet_disk.specs.declared.disk.Disk.{Ghosts}
 use Rattle.node_base.specs.declared.refusal.Refusal.{Refusal}
 use Rattle.repo_store.specs.declared.store.RepoStore.{RepoStore}
 use Rattle.sync_core.specs.declared.fault.SyncFault.{SyncFault}
+use Rattle.sync_job.specs.Questions.{Exchange}
 use Rattle.sync_job.specs.Said.{Spoken}
 use Rattle.mirror_engines.proofs.Bringing.{unknown_serves}
-use Rattle.svn_ends.specs.Runs.{RunsAt, Unmet, Met, RunsOver, Unopened, Ran}
+use Rattle.svn_ends.specs.Runs.{RunsBy, Unmet, Met, RunsOver, Unopened, Ran}
 
-pub over : {R C D O : Type 0} {G : Ghosts D} (g : InputGhosts R) (h : OutputGhosts C) (url : List ℕ) (input : R) (commands : C) (contents : O → Option (List ℕ)) (failures : O → ℕ) (IsRun : List Spoken → Result (Unit {0}) SyncFault → Type 0) (old new : RepoStore D G) (before now : O) (result : Result (Unit {0}) Refusal)
-    → RunsAt g h url input commands contents failures IsRun old new before now result → RunsOver contents failures IsRun old new before now result
-over g h url input commands contents failures IsRun old new before now result (Unmet e is why same out) = Unopened e is why same out
-over g h url input commands contents failures IsRun old new before now result (Met port opened s) = Ran (unknown_serves _ port IsRun old new _ _ _ result s)
+pub over : {P D O : Type 0} {G : Ghosts D} (Opened : P → Type 0) (answered : P → P → List Exchange → Type 0) (contents : O → Option (List ℕ)) (failures : O → ℕ) (IsRun : List Spoken → Result (Unit {0}) SyncFault → Type 0) (old new : RepoStore D G) (before now : O) (result : Result (Unit {0}) Refusal)
+    → RunsBy Opened answered contents failures IsRun old new before now result → RunsOver contents failures IsRun old new before now result
+over Opened answered contents failures IsRun old new before now result (Unmet e is why same out) = Unopened e is why same out
+over Opened answered contents failures IsRun old new before now result (Met port opened s) = Ran (unknown_serves _ port IsRun old new _ _ _ result s)

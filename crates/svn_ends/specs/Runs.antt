@@ -9,12 +9,15 @@ use Rattle.node_base.specs.declared.refusal.Refusal.TheVariants as refusal
 use Rattle.repo_store.specs.declared.store.RepoStore.{RepoStore}
 use Rattle.sync_core.specs.declared.fault.SyncFault.{SyncFault}
 use Rattle.sync_job.specs.Masters.{fault_text}
+use Rattle.sync_job.specs.Questions.{Exchange}
 use Rattle.sync_job.specs.Said.{Spoken}
 use Rattle.mirror_engines.specs.Runs.{Serves}
 use Rattle.mirror_engines.specs.Worlds.{unknown}
+use Rattle.ra_client.specs.Deltas.{session_of, deltas_answered_by}
 use Rattle.ra_client.specs.Masters.{answered_by, of_client}
 use Rattle.ra_client.specs.Ports.{IsOpened}
 use Rattle.ra_client.specs.declared.port.ClientPort.{ClientPort}
+use Rattle.ra_client.specs.declared.delta_port.DeltaPort.{DeltaPort}
 use Rattle.ra_client.specs.declared.fault.ClientFault.{ClientFault}
 
 -- there is no connection: nobody listens, or memory ran out
@@ -30,10 +33,18 @@ pub data RunsOver {D O : Type 0} {G : Ghosts D} (contents : O → Option (List �
   Unopened : (e : Refusal) → result ≡ Err e → (e ≡ refusal.OutOfMemory) ⊎ ((f : ClientFault) × TellsMaster f e) → new ≡ old → now ≡ before → RunsOver contents failures IsRun old new before now result
   Ran : Serves unknown tt IsRun old new (contents before) (contents now) (Rose (failures before) (failures now)) result → RunsOver contents failures IsRun old new before now result
 
--- the same where the session's input and output are known: what the master answered in the run is what the session's calls answered
-pub data RunsAt {R C D O : Type 0} {G : Ghosts D} (g : InputGhosts R) (h : OutputGhosts C) (url : List ℕ) (input : R) (commands : C) (contents : O → Option (List ℕ)) (failures : O → ℕ) (IsRun : List Spoken → Result (Unit {0}) SyncFault → Type 0) (old new : RepoStore D G) (before now : O) (result : Result (Unit {0}) Refusal) : Type 0 where
-  Unmet : (e : Refusal) → result ≡ Err e → (e ≡ refusal.OutOfMemory) ⊎ ((f : ClientFault) × TellsMaster f e) → new ≡ old → now ≡ before → RunsAt g h url input commands contents failures IsRun old new before now result
-  Met : (port : ClientPort R C g h) → IsOpened url input commands port → Serves answered_by port IsRun old new (contents before) (contents now) (Rose (failures before) (failures now)) result → RunsAt g h url input commands contents failures IsRun old new before now result
+-- the same where it is known how the session's port is opened: what the master answered in the run is what this port's calls answered
+pub data RunsBy {P D O : Type 0} {G : Ghosts D} (Opened : P → Type 0) (answered : P → P → List Exchange → Type 0) (contents : O → Option (List ℕ)) (failures : O → ℕ) (IsRun : List Spoken → Result (Unit {0}) SyncFault → Type 0) (old new : RepoStore D G) (before now : O) (result : Result (Unit {0}) Refusal) : Type 0 where
+  Unmet : (e : Refusal) → result ≡ Err e → (e ≡ refusal.OutOfMemory) ⊎ ((f : ClientFault) × TellsMaster f e) → new ≡ old → now ≡ before → RunsBy Opened answered contents failures IsRun old new before now result
+  Met : (port : P) → Opened port → Serves answered port IsRun old new (contents before) (contents now) (Rose (failures before) (failures now)) result → RunsBy Opened answered contents failures IsRun old new before now result
+
+-- over a session of that input and output
+abbrev pub RunsAt : {R C D O : Type 0} {G : Ghosts D} → InputGhosts R → OutputGhosts C → List ℕ → R → C → (O → Option (List ℕ)) → (O → ℕ) → (List Spoken → Result (Unit {0}) SyncFault → Type 0) → RepoStore D G → RepoStore D G → O → O → Result (Unit {0}) Refusal → Type 0
+RunsAt {R} {C} {D} {O} {G} g h url input commands = RunsBy {P = ClientPort R C g h} (λ port. IsOpened url input commands port) answered_by
+
+-- and over one whose server sends texts as differences
+abbrev pub RunsDeltasAt : {R C D O : Type 0} {G : Ghosts D} → InputGhosts R → OutputGhosts C → List ℕ → R → C → (O → Option (List ℕ)) → (O → ℕ) → (List Spoken → Result (Unit {0}) SyncFault → Type 0) → RepoStore D G → RepoStore D G → O → O → Result (Unit {0}) Refusal → Type 0
+RunsDeltasAt {R} {C} {D} {O} {G} g h url input commands = RunsBy {P = DeltaPort R C g h} (λ port. IsOpened url input commands (session_of port)) deltas_answered_by
 
 -- the same over a connection, which may not come about
 pub data RunsFrom {D O : Type 0} {G : Ghosts D} (contents : O → Option (List ℕ)) (failures : O → ℕ) (IsRun : List Spoken → Result (Unit {0}) SyncFault → Type 0) (old new : RepoStore D G) (before now : O) (result : Result (Unit {0}) Refusal) : Type 0 where

@@ -13,7 +13,8 @@
 //! ```text
 //! let url = b"svn://127.0.0.1:3690/";
 //! let peer = Peer { port: 3690, patience: Duration::from_secs(600) };
-//! let (mirror, output, done) = run_work_from(&rt, alloc, mirror, peer, url, work, output);
+//! let source = Source { peer, url, deltas: false };
+//! let (mirror, output, done) = run_work_from(&rt, alloc, mirror, source, work, output);
 //! done?;
 //! ```
 //!
@@ -25,7 +26,7 @@ pub use mirror_port::{MirrorSharePort, over_mirror};
 pub use port::{MasterSharePort, SharePort};
 pub use server::{Address, serve_mirror, serve_store};
 pub use shares::ServedShare;
-pub use work::{run_work_from, run_work_over};
+pub use work::{Source, run_deltas_over, run_work_from, run_work_over};
 
 mod fault;
 mod mirror_port;

@@ -3,14 +3,14 @@
 ghost use Rattle.std.specs.Prelude.{◌≡◌, IfErr, OnOk};
 ghost use Rattle.byte_streams.specs.Causes.{Rose};
 ghost use Rattle.mirror_engines.specs.Runs.{IsWorked};
-ghost use Rattle.svn_ends.specs.Runs.{RunsAt, RunsFrom};
+ghost use Rattle.svn_ends.specs.Runs.{RunsAt, RunsDeltasAt, RunsFrom};
 
 use crate::refusals::{refused, unreached};
 use byte_streams::{CountedReader, CountedWriter, Input, Output};
 use fleet_disk::Disk;
 use mirror_engines::{Work, run_work};
 use node_base::Refusal;
-use ra_client::ClientPort;
+use ra_client::{ClientPort, DeltaPort};
 use repo_store::RepoStore;
 use sockets::{Peer, dial};
 use std::alloc::Global;
@@ -19,6 +19,17 @@ use std::net::{Net, TcpStream};
 
 /// Bytes that are kept back before they go out: 16 KiB, more than a command has.
 const ROOM: usize = 16_384;
+
+/// A repository that a server on a port of 127.0.0.1 has.
+#[derive(Drop)]
+pub struct Source<'a> {
+    /// The port, and how long the server may say nothing.
+    pub peer: Peer,
+    /// The repository's URL.
+    pub url: &'a [u8],
+    /// Whether its texts come as differences, as Subversion's own server sends them.
+    pub deltas: bool,
+}
 
 /// Runs the work over a mirror's store and the repository at that URL of a server on a port of 127.0.0.1, as
 /// `mirror_engines::run_work` does. The mirror's store and the output come back as the run has left them, with its
@@ -29,16 +40,16 @@ pub fn run_work_from<R: Net<Stream = TcpStream>, D: Disk + Drop, O: Output + Dro
     rt: &R,
     alloc: Global,
     mirror: RepoStore<D>,
-    peer: Peer,
-    url: &[u8],
+    source: Source<'_>,
     work: Work,
     output: O,
 ) -> (RepoStore<D>, O, Result<(), Refusal>)
     ensures ran { RunsFrom O.contents O.failures (IsWorked work) mirror result.0 output result.1 result.2 }
     ensures unfailed { OnOk result.2 (O.failures result.1 ≡ O.failures output) }
 {
+    let Source { peer, url, deltas } = source;
     match dial(rt, peer) {
-        Ok(stream) => run_work_on(alloc, mirror, &stream, url, work, output),
+        Ok(stream) => run_work_on(alloc, mirror, &stream, url, deltas, work, output),
         Err(fault) => (mirror, output, Err(unreached(fault))),
     }
 }
@@ -49,6 +60,7 @@ fn run_work_on<D: Disk + Drop, O: Output + Drop>(
     mirror: RepoStore<D>,
     stream: &TcpStream,
     url: &[u8],
+    deltas: bool,
     work: Work,
     output: O,
 ) -> (RepoStore<D>, O, Result<(), Refusal>)
@@ -59,15 +71,11 @@ fn run_work_on<D: Disk + Drop, O: Output + Drop>(
         return (mirror, output, Err(Refusal::OutOfMemory));
     };
     let input = CountedReader::new(stream);
-    run_work_over(
-        alloc,
-        mirror,
-        input,
-        CountedWriter::new(buffer),
-        url,
-        work,
-        output,
-    )
+    let commands = CountedWriter::new(buffer);
+    if deltas {
+        return run_deltas_over(alloc, mirror, input, commands, url, work, output);
+    }
+    run_work_over(alloc, mirror, input, commands, url, work, output)
 }
 
 /// The same over any input from a server and any output to it: what is written to it is kept back there, if at all, no
@@ -90,5 +98,26 @@ pub fn run_work_over<D: Disk + Drop, I: Input + Drop, C: Output + Drop, O: Outpu
     match ClientPort::open(alloc, url, input, commands) {
         Ok(master) => run_work(alloc, mirror, master, work, output),
         Err(fault) => (mirror, output, Err(refused(alloc, fault))),
+    }
+}
+
+/// What [`run_work_over`] does, where the server sends texts as differences.
+pub fn run_deltas_over<D: Disk + Drop, I: Input + Drop, C: Output + Drop, O: Output + Drop>(
+    alloc: Global,
+    mirror: RepoStore<D>,
+    input: I,
+    commands: C,
+    url: &[u8],
+    work: Work,
+    output: O,
+) -> (RepoStore<D>, O, Result<(), Refusal>)
+    ensures ran { RunsDeltasAt I.Input C.Output url.now input commands O.contents O.failures (IsWorked work) mirror
+        result.0 output result.1 result.2 }
+    ensures unfailed { OnOk result.2 (O.failures result.1 ≡ O.failures output) }
+    ensures peer { IfErr result.2 (λ e. e ≡ Refusal.PeerFailed → Rose (O.failures output) (O.failures result.1)) }
+{
+    match DeltaPort::open(alloc, url, input, commands) {
+        Ok(port) => run_work(alloc, mirror, port, work, output),
+        Err(unopened) => (mirror, output, Err(refused(alloc, unopened))),
     }
 }
