@@ -15,7 +15,7 @@ _svnfleet() {
     dump) options=-r ;;
     mkdir) options='--message --moment' ;;
     initialize) options=--timeout ;;
-    synchronize) options='--steal-lock --token --timeout' ;;
+    synchronize) options='--steal-lock --deltas --token --timeout' ;;
     copy-revprops) options='-r --token --timeout' ;;
     serve) options='--port --connections --timeout --root-url --browse' ;;
     fleet) options=--workers ;;

@@ -82,12 +82,16 @@ server_url digits = codes "svn://127.0.0.1:" ++ (digits ++ codes "/")
 abbrev pub SpellsServer : List ℕ → ℕ → Type 0
 SpellsServer url port = (digits : List ℕ) × (url ≡ server_url digits) × SpellsUpTo 65535 digits port
 
--- the folder of a mirror and its source: another folder, or on a server, which may say nothing for so long
+-- whether the option without a value is given
+abbrev pub is_given : List Row → List ℕ → Bool
+is_given rows name = option_map_or (λ value. bytes_eq value (codes "true")) (first_of name rows) false
+
+-- the folder of a mirror and its source: another folder, or on a server, which may say nothing for so long, and sends texts as differences or whole
 abbrev pub HasSource : List Row → List ℕ → Place → Type 0
 HasSource rows mirror (Folder source) = HasFolders rows mirror (string_bytes source)
-HasSource rows mirror (Server url port seconds) =
+HasSource rows mirror (Server url port seconds deltas) =
     HasValue rows (codes "MIRROR") mirror × HasValue rows (codes "SOURCE") (string_bytes url) × SpellsServer (string_bytes url) port
-    × IsTimeoutOf (first_of (codes "timeout") rows) seconds
+    × IsTimeoutOf (first_of (codes "timeout") rows) seconds × (deltas ≡ is_given rows (codes "deltas"))
 
 -- the range that is given
 abbrev pub IsRangeGiven : List Row → RevRange → Type 0
@@ -97,10 +101,6 @@ IsRangeGiven rows range = (value : List ℕ) × HasValue rows (codes "revisions"
 abbrev pub IsTokenOf : Option (List ℕ) → List ℕ → Type 0
 IsTokenOf None token = token ≡ codes "job"
 IsTokenOf (Some value) token = (token ≡ value) × (is_token value ≡ true)
-
--- whether the option without a value is given
-abbrev pub is_given : List Row → List ℕ → Bool
-is_given rows name = option_map_or (λ value. bytes_eq value (codes "true")) (first_of name rows) false
 
 -- the first value of that name spells the number
 abbrev pub HasNumber : List Row → List ℕ → ℕ → ℕ → Type 0
@@ -149,11 +149,13 @@ HasTaskOf rows task.Initialize = Unit {0}
 HasTaskOf rows (task.Synchronize token steal) = IsTokenOf (first_of (codes "token") rows) token × (steal ≡ is_given rows (codes "steal-lock"))
 HasTaskOf rows (task.CopyRevprops token range) = IsTokenOf (first_of (codes "token") rows) token × IsRangeGiven rows range
 
--- a mirror's folder, its source on a server and its seconds are those of the values under their names, and what is to be done
+-- a mirror's folder, its source on a server and its seconds are those of the values under their names, as is whether it sends texts as
+-- differences, and what is to be done
 abbrev pub HasPullOf : List Row → Pull → Type 0
 HasPullOf rows pull =
     HasValue rows (codes "MIRROR") (string_bytes pull.mirror) × HasValue rows (codes "SOURCE") (string_bytes pull.url)
-    × SpellsServer (string_bytes pull.url) pull.port × IsTimeoutOf (first_of (codes "timeout") rows) pull.seconds × HasTaskOf rows pull.task
+    × SpellsServer (string_bytes pull.url) pull.port × IsTimeoutOf (first_of (codes "timeout") rows) pull.seconds
+    × (pull.deltas ≡ is_given rows (codes "deltas")) × HasTaskOf rows pull.task
 
 -- the values under that name are these
 abbrev pub HasValues : List Row → List ℕ → List (List ℕ) → Type 0

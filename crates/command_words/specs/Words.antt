@@ -80,7 +80,7 @@ abbrev pub initialize_app : App
 initialize_app = two_folders_app (codes "initialize") (optional_rule (codes "timeout") ∷ [])
 
 abbrev pub synchronize_app : App
-synchronize_app = two_folders_app (codes "synchronize") (flag_rule (codes "steal-lock") ∷ optional_rule (codes "token") ∷ optional_rule (codes "timeout") ∷ [])
+synchronize_app = two_folders_app (codes "synchronize") (flag_rule (codes "steal-lock") ∷ flag_rule (codes "deltas") ∷ optional_rule (codes "token") ∷ optional_rule (codes "timeout") ∷ [])
 
 abbrev pub copy_revprops_app : App
 copy_revprops_app = two_folders_app (codes "copy-revprops") (range_rule true (codes "revisions") ∷ optional_rule (codes "token") ∷ optional_rule (codes "timeout") ∷ [])

@@ -144,6 +144,8 @@ pub struct Pull {
     pub port: u16,
     /// The seconds that the server may say nothing, and read nothing, from 1 to 43200.
     pub seconds: u16,
+    /// Whether the server sends texts as differences.
+    pub deltas: bool,
     /// What is to be done.
     pub task: Task,
 }
@@ -166,11 +168,13 @@ pub enum Planned {
 enum Place {
     // In a folder.
     Folder(String),
-    // On a server: its URL, the port in that, and the seconds that it may say nothing.
+    // On a server: its URL, the port in that, the seconds that it may say nothing, and whether it sends texts as
+    // differences.
     Server {
         url: String,
         port: u16,
         seconds: u16,
+        deltas: bool,
     },
 }
 
@@ -472,11 +476,17 @@ fn over(mirror: String, source: Place, task: Task) -> Planned
 {
     match source {
         Place::Folder(source) => Planned::Run(over_folders_of(mirror, source, task)),
-        Place::Server { url, port, seconds } => Planned::Pull(Pull {
+        Place::Server {
+            url,
+            port,
+            seconds,
+            deltas,
+        } => Planned::Pull(Pull {
             mirror,
             url,
             port,
             seconds,
+            deltas,
             task,
         }),
     }
@@ -616,7 +626,10 @@ fn places(alloc: Global, help: &str, given: &ArgMatches<'_>) -> Result<(String, 
     let source = text(alloc, given, "SOURCE")?;
     if is_on_server(source.as_str()) {
         return match port_in(source.as_str()) {
-            Some(port) => Ok((mirror, server_at(source, port, seconds))),
+            Some(port) => {
+                let deltas = is_given(given, "deltas");
+                Ok((mirror, server_at(source, port, seconds, deltas)))
+            }
             None => Err(wrong(
                 alloc,
                 help,
@@ -637,10 +650,15 @@ fn places(alloc: Global, help: &str, given: &ArgMatches<'_>) -> Result<(String, 
 }
 
 // A source on a server.
-fn server_at(url: String, port: u16, seconds: u16) -> Place
-    ensures { result ≡ Place.Server url port seconds }
+fn server_at(url: String, port: u16, seconds: u16, deltas: bool) -> Place
+    ensures { result ≡ Place.Server url port seconds deltas }
 {
-    Place::Server { url, port, seconds }
+    Place::Server {
+        url,
+        port,
+        seconds,
+        deltas,
+    }
 }
 
 // Whether a source is one on a server.

@@ -141,6 +141,11 @@ pub const MIRRORS: &[Subcommand<'static>] = &[
                 kind: WordKind::Flag,
                 help: "Take the sync lock though it is held, by a run that was stopped",
             },
+            Word {
+                name: "deltas",
+                kind: WordKind::Flag,
+                help: "Take texts as differences, as Subversion's own svnserve sends them",
+            },
             TOKEN,
             TIMEOUT,
         ],

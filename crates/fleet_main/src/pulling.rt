@@ -23,7 +23,7 @@ use sockets::Peer;
 use std::alloc::Global;
 use std::net::{Net, TcpStream};
 use std::time::Duration;
-use svn_ends::run_work_from;
+use svn_ends::{Source, run_work_from};
 
 // The work that a task is.
 fn work_of(alloc: Global, url: &str, task: Task) -> Result<Work, Refusal>
@@ -49,8 +49,7 @@ fn pull_opened<R: Net<Stream = TcpStream>, D: Disk + Drop, O: Output + Drop>(
     rt: &R,
     alloc: Global,
     mirror: RepoStore<D>,
-    peer: Peer,
-    url: &str,
+    source: Source<'_>,
     work: Work,
     output: O,
 ) -> (RepoStore<D>, O, Result<(), Refusal>)
@@ -61,7 +60,7 @@ fn pull_opened<R: Net<Stream = TcpStream>, D: Disk + Drop, O: Output + Drop>(
     ensures rules { ¬ HasFailed mirror → D.honest (disk_of mirror) → D.honest (disk_of result.0) }
     ensures unfailed { OnOk result.2 (O.failures result.1 ≡ O.failures output) }
 {
-    run_work_from(rt, alloc, mirror, peer, url.as_bytes(), work, output)
+    run_work_from(rt, alloc, mirror, source, work, output)
 }
 
 // The mirror's folder is opened first.
@@ -70,8 +69,7 @@ fn pull_folder<R: Net<Stream = TcpStream>, F: Folders, O: Output + Drop>(
     alloc: Global,
     folders: &mut F,
     mirror: &str,
-    peer: Peer,
-    url: &str,
+    source: Source<'_>,
     work: Work,
     output: O,
 ) -> (O, Result<(), Refusal>)
@@ -85,7 +83,7 @@ fn pull_folder<R: Net<Stream = TcpStream>, F: Folders, O: Output + Drop>(
 {
     match opened(alloc, folders, mirror) {
         Ok(store) => {
-            let (store, output, done) = pull_opened(rt, alloc, store, peer, url, work, output);
+            let (store, output, done) = pull_opened(rt, alloc, store, source, work, output);
             closed(folders, mirror, store);
             (output, done)
         }
@@ -112,6 +110,7 @@ fn pull_asked<R: Net<Stream = TcpStream>, F: Folders, O: Output + Drop>(
         url,
         port,
         seconds,
+        deltas,
         task,
     } = pull;
     let mirror = mirror.as_str();
@@ -120,8 +119,13 @@ fn pull_asked<R: Net<Stream = TcpStream>, F: Folders, O: Output + Drop>(
         port,
         patience: Duration::from_secs(u64::from(seconds)),
     };
+    let source = Source {
+        peer,
+        url: url.as_bytes(),
+        deltas,
+    };
     match work_of(alloc, url, task) {
-        Ok(work) => pull_folder(rt, alloc, folders, mirror, peer, url, work, output),
+        Ok(work) => pull_folder(rt, alloc, folders, mirror, source, work, output),
         Err(refusal) => (output, Err(refusal)),
     }
 }

@@ -19,7 +19,7 @@ use std::sync::Wait;
 use std::thread;
 use std::thread::Threads;
 use std::time::{Clock, Duration};
-use svn_ends::{Address, run_work_from, serve_mirror};
+use svn_ends::{Address, Source, run_work_from, serve_mirror};
 
 // How many clients each server has, and how many runs each of them makes, over a connection each.
 const CLIENTS: u64 = 2;
@@ -104,15 +104,12 @@ fn runs_once<R: Net<Stream = TcpStream> + Wait + Abort>(
             }
         };
         let output = MemOutput::new(alloc, WRITES);
-        let (store, _output, done) = run_work_from(
-            rt,
-            alloc,
-            mirror,
+        let source = Source {
             peer,
-            url.as_bytes(),
-            work,
-            output,
-        );
+            url: url.as_bytes(),
+            deltas: false,
+        };
+        let (store, _output, done) = run_work_from(rt, alloc, mirror, source, work, output);
         mirror = store;
         match done {
             Ok(()) => return (mirror, 0),
