@@ -177,6 +177,10 @@ operated 'Mirror an archive on another machine' 1
 check 'OPERATING: the tunnel is opened' grep -qx "ssh -fN -o ServerAliveInterval=30 -L $port:127.0.0.1:$port archive.example.org" "$pages/called"
 operated 'Mirror an archive on another machine' 2 "s/UUID/$identity/"
 check 'OPERATING: a mirror over svn:// is brought up' grep -qx 'Committed revision 25.' said
+direct=$(python3 -c 'import socket; it = socket.socket(); it.bind(("127.0.0.1", 0)); print(it.getsockname()[1])')
+operated 'Mirror what svnserve has' 1 "s/3692/$direct/; s|svnserve -d|& --pid-file $pages/svnserve.pid|"
+check 'OPERATING: a mirror of svnserve is brought up' grep -qx 'Committed revision 25.' said
+kill "$(cat "$pages/svnserve.pid")"
 operated 'Serve an archive or a mirror' 2
 check 'OPERATING: the copy has all' test "$(svnlook youngest "$pages/srv/copy")" -eq 25
 kill $serving
