@@ -117,11 +117,14 @@ def judged(code, sizes, source_size):
         raise ValueError
 
 
-def read(data, base):
-    """The text that bytes make of a base; `Refused` where they make none."""
+def front(data, base):
+    """The text that the first windows of bytes make of a base, and whether the bytes end between windows; `Refused` where no
+    bytes behind them make it a delta."""
     part, text, last = Bytes(data), bytearray(), (0, 0)
     if not data.startswith(b'SVN\0'):
-        raise Refused(BAD_WINDOW, b'')
+        if not b'SVN\0'.startswith(data):
+            raise Refused(BAD_WINDOW, b'')
+        return b'', False
     part.take(4)
     while part.left():
         try:
@@ -135,9 +138,19 @@ def read(data, base):
             judged(part.data[part.at:part.at + size], (target, size, fresh), seen)
             code, new = part.take(size), part.take(fresh)
             text += applied(base[offset:offset + seen], code, new, target)
-        except (EOFError, ValueError):
+        except EOFError:
+            return bytes(text), False
+        except ValueError:
             raise Refused(BAD_WINDOW, bytes(text)) from None
-    return bytes(text)
+    return bytes(text), True
+
+
+def read(data, base):
+    """The text that bytes make of a base; `Refused` where they make none."""
+    text, is_between = front(data, base)
+    if not is_between:
+        raise Refused(BAD_WINDOW, text)
+    return text
 
 
 def spelled(random, value, size=0):
@@ -193,14 +206,30 @@ def harmed(random, data):
     return random.choice([data[:at], data[:at] + byte + data[at + 1:], data[:at] + byte + data[at:], data[:at] + data[at + 1:]])
 
 
-def made(random):
-    """A base, and the bytes of a delta of it, at times with something wrong."""
-    base = some(random, random.choice([0, 1, 10, 70, 300]))
+def delta_of(random, base):
+    """The bytes of a delta of a base, at times with something wrong."""
     data, last = b'SVN\0', (0, 0)
     for _ in range(random.choice([0, 1, 2, 4])):
         more, last = window(random, base, last)
         data += more
-    return base, harmed(random, data) if random.random() < 0.4 else data
+    return harmed(random, data) if random.random() < 0.4 else data
+
+
+def right_delta_of(random, base):
+    """The bytes of one that is read."""
+    while True:
+        data = delta_of(random, base)
+        try:
+            read(data, base)
+            return data
+        except Refused:
+            pass
+
+
+def made(random):
+    """A base, and the bytes of a delta of it, at times with something wrong."""
+    base = some(random, random.choice([0, 1, 10, 70, 300]))
+    return base, delta_of(random, base)
 
 
 def cut(random, data):

@@ -7,6 +7,7 @@ changed call by call. A refusal is raised with its number; 60 is the peer's own 
 import hashlib
 import re
 
+import deltas
 from asked import sent
 from dumps import Refused, below, is_text, node, path_of
 from made import PROPS, name_of, props_of, some
@@ -208,6 +209,24 @@ class Windows:
             yield from self.window(first)
 
 
+class Differences(Windows):
+    """The same of windows that make the text of a base."""
+
+    def __init__(self, base):
+        self.base, self.data, self.text, self.is_between = base, b'', b'', False
+
+    def feed(self, piece):
+        self.data += piece
+        try:
+            self.text, self.is_between = deltas.front(self.data, self.base)
+        except deltas.Refused as refused:
+            raise Refused(refused.number) from None
+
+    def finish(self):
+        if not self.is_between:
+            raise Refused(44)
+
+
 # ---- what the calls of an edit make
 
 class Build:
@@ -327,6 +346,12 @@ class Given:
         wanted(len(name) <= 255 and is_text(name))
         return name
 
+    def sum(self):
+        """A sum in hexadecimal digits, where one is given."""
+        sum = self.maybe(lambda it: it.next(bytes))
+        wanted(sum is None or len(sum) == 32 and all(it in b'0123456789abcdefABCDEF' for it in sum))
+        return sum
+
     def maybe(self, take):
         """What a list has that is empty or holds something."""
         found = self.next(list)
@@ -431,12 +456,18 @@ class Edit:
         token, name, value = params.next(bytes), params.name(), params.maybe(lambda it: it.next(bytes))
         self.build.prop(self.innermost(token, b'file'), name, value)
 
-    def at_apply_textdelta(self, params):
+    def base_sum(self, params):
         # (whatever is in the list: the sum isn't looked at)
-        token, _ = params.next(bytes), params.next(list)
+        params.next(list)
+
+    def windows(self, _path, _sum):
+        return Windows()
+
+    def at_apply_textdelta(self, params):
+        token, sum = params.next(bytes), self.base_sum(params)
         path = self.innermost(token, b'file')
         wanted(self.text is None)
-        self.text = Windows()
+        self.text = self.windows(path, sum)
         self.build.text(path, b'')
 
     def at_textdelta_chunk(self, params):
@@ -454,8 +485,7 @@ class Edit:
         self.build.text(path, self.text)
 
     def at_close_file(self, params):
-        token, sum = params.next(bytes), params.maybe(lambda it: it.next(bytes))
-        wanted(sum is None or len(sum) == 32 and all(it in b'0123456789abcdefABCDEF' for it in sum))
+        token, sum = params.next(bytes), params.sum()
         self.innermost(token, b'file')
         wanted(not isinstance(self.text, Windows))
         if sum is not None and self.text is not None:
@@ -480,6 +510,18 @@ class Edit:
 
 # The methods by the commands that they take.
 COMMANDS = {name[3:].replace('_', '-').encode(): method for name, method in vars(Edit).items() if name.startswith('at_')}
+
+
+class DeltaEdit(Edit):
+    """The same where texts come as differences from what the files have so far, whose sums are looked at."""
+
+    def base_sum(self, params):
+        return params.sum()
+
+    def windows(self, path, sum):
+        base = self.build.tree[path]['text']
+        wanted(sum is None or hashlib.md5(base).hexdigest().encode() == sum.lower(), 6)
+        return Differences(base)
 
 
 # ---- edits made from a seed

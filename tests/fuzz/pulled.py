@@ -3,7 +3,7 @@ import socket
 import tempfile
 
 from dumps import Refused
-from editing import Edit, Items
+from editing import DeltaEdit, Edit, Items
 from sessions import AUTHORISED, DONE as SUCCESS, GREETING, Ends, Input, Server, Word, command, success
 from dumps import History, node
 from trials import DONE, TEXTS, UUID, Differs, reached
@@ -12,11 +12,11 @@ MIRROR = '6a1f0c3e-0000-4000-8000-0000000000c1'
 NEWEST = 65535
 
 
-def judged(trees, data):
+def judged(edit, data):
     """The tree that an edit's bytes come to, with the answer behind it, or the number that they are refused for."""
     items = Items(data)
     try:
-        tree = Edit(trees).received(items)
+        tree = edit.received(items)
         item = items.next()
         if not (type(item) is list and len(item) > 1 and type(item[0]) is Word and item[0] == b'success' and type(item[1]) is list):
             raise Refused(60)
@@ -32,8 +32,8 @@ def line_of(number):
 class Mirror:
     """A mirror in a folder, and the peer that tells it. Its revisions are those that were well told."""
 
-    def __init__(self, program, room, random):
-        self.program, self.folder, self.random = program, f'{room}/mirror', random
+    def __init__(self, program, room, random, is_by_deltas):
+        self.program, self.folder, self.random, self.is_by_deltas = program, f'{room}/mirror', random, is_by_deltas
         self.trees, self.props, self.is_committed = [{(): node(b'dir', {}, None, 0)}], [{}], False
         self.listener = socket.create_server(('127.0.0.1', 0))
         self.listener.settimeout(60)
@@ -150,7 +150,7 @@ class Mirror:
                 self.say(AUTHORISED + command(b'failure', [21, b'x', b'', 0]))
                 return 60
             data, may_wait = given
-            tree, fault = judged(self.trees, data)
+            tree, fault = judged((DeltaEdit if self.is_by_deltas else Edit)(self.trees), data)
             reached(fault)
             self.say(AUTHORISED + command(b'revprops', *([name, it] for name, it in sorted(props.items()))) + data)
             if may_wait:
@@ -195,7 +195,7 @@ class Mirror:
         self.held(['initialize', self.folder, self.url], session)
 
     def synchronise(self, inputs):
-        self.held(['synchronize', self.folder, self.url], lambda: self.session(inputs))
+        self.held(['synchronize', *['--deltas'] * self.is_by_deltas, self.folder, self.url], lambda: self.session(inputs))
 
     def seen(self):
         """The mirror's dump has the revisions that were well told."""
@@ -219,10 +219,10 @@ def dumped(program, folder):
     return history, len(history.trees) - 1
 
 
-def pulled(program, random, inputs, count):
+def pulled(program, random, inputs, count, is_by_deltas=False):
     """Tells a mirror all inputs, of which each synchronisation takes those up to one that is refused."""
     with tempfile.TemporaryDirectory(prefix='svnfleet-fuzz-') as room:
-        mirror = Mirror(program, room, random)
+        mirror = Mirror(program, room, random, is_by_deltas)
         try:
             mirror.begin()
             told = [0]
