@@ -61,7 +61,8 @@ class Mirror:
             try:
                 piece = self.line.recv(1 << 16)
             except ConnectionResetError:
-                piece = b''
+                # (it has gone with something unread, by which what it asked may be lost)
+                piece, self.is_reset = b'', True
             if not piece:
                 return None
             self.come = Input(self.come.data[at:] + piece)
@@ -98,6 +99,8 @@ class Mirror:
             self.judge(wanted, self.item())
 
     def judge(self, wanted, item):
+        if item is None and self.is_reset:
+            return
         if type(wanted) is tuple and item is not None:
             call, answer = wanted
             is_well = call(item) == answer
@@ -170,7 +173,7 @@ class Mirror:
 
     def held(self, words, session):
         """Runs a command beside a session, and holds it to its lines and to what that is refused for."""
-        self.lines, self.come = [], Input(b'')
+        self.lines, self.come, self.is_reset = [], Input(b''), False
         run = self.program.began(words, pieces=self.random.choice([1, 7]) if self.random.random() < 0.02 else 0)
         try:
             self.line, _ = self.listener.accept()
