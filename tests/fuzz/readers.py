@@ -155,7 +155,7 @@ class Reader(Asker):
         random, name = self.random, self.random.choice(ORDERS)
         number, recurse = self.maybe(self.any_of(self.folders())), random.random() < 0.9
         target = self.path() if random.random() < 0.04 else random.choice(self.near()) if random.random() < 0.3 else b''
-        depth = self.depth() if random.random() < 0.05 else random.choice(WHOLE)
+        depth = self.depth() if random.random() < 0.3 else random.choice(WHOLE)
         count = 3 if random.random() < 0.1 else 0
         if name == b'update':
             params = self.cut([number, target, recurse, depth, self.flag(), self.flag()], count)
@@ -170,7 +170,7 @@ class Reader(Asker):
     def state(self, number, is_empty):
         """A revision of which something is reported, and how."""
         token = [b'opaquelocktoken:x'] if self.random.random() < 0.05 else []
-        depth = self.depth() if self.random.random() < 0.02 else WHOLE[0]
+        depth = self.depth() if self.random.random() < 0.2 else WHOLE[0]
         return self.cut([number, is_empty, token, depth], 2 if self.random.random() < 0.05 else 0)
 
     def reported_path(self, path, numbers, front):
@@ -333,6 +333,8 @@ class WellBehaved(Reader):
             target = random.choice(self.near())
         at = [] if number == head and self.flag() else [number]
         depth, goal = random.choice(WHOLE), random.choice(self.goals(number, not target))
+        # (copies that don't have all)
+        self.depths = DEPTHS[:4] if random.random() < 0.4 else WHOLE[:1]
         url = self.spelled_url(goal)
         return [Word(name), {b'update': [at, target, True, depth, False, self.flag()], b'switch': [at, target, True, url, depth, False, self.flag()],
                              b'status': [target, True, at, depth], b'diff': [at, target, True, self.flag(), url, self.flag(), depth]}[name]]
@@ -343,7 +345,7 @@ class WellBehaved(Reader):
         return [it for it in tree if not is_folder or tree[it]['kind'] == b'dir']
 
     def state(self, number, is_empty):
-        return [number, is_empty, [], WHOLE[0]]
+        return [number, is_empty, [], self.random.choice(self.depths)]
 
     def may_be_empty(self, place, number):
         """(svnserve takes an empty folder alone)"""

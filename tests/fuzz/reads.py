@@ -25,7 +25,7 @@ from dumps import Refused, path_of
 from sessions import AUTHORISED, DONE, PIECE, Ends, Input, Params, Server, Word, is_a, spelled, success, wanted
 from trials import TEXTS as REFUSALS
 
-GREETING = b'( success ( 2 2 ( ) ( edit-pipeline ) ) ) '
+GREETING = b'( success ( 2 2 ( ) ( edit-pipeline depth ) ) ) '
 # The numbers of Subversion by which a client decides, and what the program says with each.
 TEXTS = {160006: 'no such revision', 160013: 'path not found', 160016: 'not a directory', 160017: 'not a file',
          165004: 'bad revision report', 200007: 'not supported', 210001: 'unknown command', 210004: 'bad command shape'}

@@ -17,6 +17,8 @@ from sessions import AUTHORISED, DONE, Edit, Word, command, is_a, items, spelled
 # The most commands of a report.
 MOST = 65536
 Change = collections.namedtuple('Change', 'path action kind source props text')
+# The most paths that may be switched.
+LINKS = 1024
 # A folder with nothing in it.
 ROOT = {(): {'kind': b'dir', 'props': {}, 'text': None, 'changed': 0}}
 
@@ -33,6 +35,14 @@ def emptied(tree):
     return {path: {**node, 'props': {}} if node['kind'] == b'dir' else node for path, node in tree.items() if not path}
 
 
+def within(tree, depth):
+    """A tree looked at so deep."""
+    if depth in (b'infinity', b'unknown'):
+        return tree
+    taken = {b'empty': (), b'files': (b'file',), b'immediates': (b'file', b'dir')}[depth]
+    return {path: node for path, node in tree.items() if not path or len(path) == 1 and node['kind'] in taken}
+
+
 def placed(tree, path, part):
     """A tree with this one at a path."""
     rest = {it: node for it, node in tree.items() if it[:len(path)] != path}
@@ -42,6 +52,14 @@ def placed(tree, path, part):
 def is_blocked(tree, path):
     """Whether something above a path is no folder."""
     return any(path[:n] not in tree or tree[path[:n]]['kind'] == b'file' for n in range(len(path)))
+
+
+def limited(tree, whole, path, depth):
+    """A tree with so much of what the whole has at a path. A bare folder stands for what is left out, as long as anything is there."""
+    if is_blocked(tree, path):
+        return tree
+    part = below(whole, path)
+    return placed(tree, path, (ROOT if part else {}) if depth == b'exclude' else within(part, depth))
 
 
 def change_at(old, new, path):
@@ -90,13 +108,13 @@ class Update(Edit):
 class Report:
     """What a command wants, and what its client has said so far that it has."""
 
-    def __init__(self, server, number, target, wanted, has_url=False, has_texts=True):
+    def __init__(self, server, number, target, wanted, depth, has_url=False, has_texts=True):
         # (the root of what is wanted stands at this path of that revision)
-        self.server, self.number, self.target, self.wanted = server, number, target, wanted
+        self.server, self.number, self.target, self.wanted, self.depth = server, number, target, wanted, depth
         self.has_url, self.has_texts = has_url, has_texts
         self.said, self.spoilt = [], None
-        # where what is switched stands, with its path
-        self.links = []
+        # where what is switched stands, with its path, and how deep each path is reported
+        self.links, self.limits = [], []
         self.tree, self.base = None, None
 
     def answer(self, item):
@@ -144,8 +162,6 @@ class Report:
         params.perhaps(lambda: params.maybe(bytes), None)
         depth = params.perhaps(params.depth, b'infinity')
         wanted(depth != b'unknown')
-        if depth == b'exclude':
-            raise Denied(200007)
         return [*found, depth]
 
     def finished(self):
@@ -173,7 +189,7 @@ class Report:
             self.take(*it)
         if self.tree is None:
             raise Denied(165004)
-        both = self.tree, self.followed(wanted, number)
+        both = (within(it, self.depth) for it in (self.tree, self.thinned(self.followed(wanted, number))))
         return Update(self, *(placed(ROOT, front, it) for it in both), number)
 
     def followed(self, wanted, number):
@@ -186,6 +202,15 @@ class Report:
                 wanted = placed(wanted, path, part)
         return wanted
 
+    def thinned(self, whole):
+        """So much of what is wanted as there is by the report: where a depth is wanted, all but what is left out."""
+        is_sparse = any(depth != b'infinity' for _, depth in self.limits)
+        tree = whole
+        for path, depth in self.limits:
+            if depth == b'exclude' if self.depth != b'unknown' else is_sparse:
+                tree = limited(tree, whole, path, depth)
+        return tree
+
     def take(self, name, params):
         if self.tree is None:
             return self.begin(name, params)
@@ -194,28 +219,35 @@ class Report:
             self.has_place(path)
             self.tree = placed(self.tree, path, {})
             return None
-        _, url, number, is_empty, depth = params
-        if depth != b'infinity':
-            raise Denied(200007)
-        self.tree = placed(self.tree, path, self.source(path, url, number, is_empty))
+        self.tree = placed(self.tree, path, self.source(*params))
+        self.limits.append((path, params[-1]))
         return None
 
     def begin(self, name, params):
         path, _, number, is_empty, depth = params if name == 'set-path' else [b'none', None, 0, False, b'']
         if path:
             raise Denied(165004)
-        if depth != b'infinity':
-            raise Denied(200007)
         place = self.server.place + self.target
         if not fits(place):
             raise Denied(160013)
-        found = self.server.part(place, self.server.number(number), not self.target and not is_empty)
+        is_bare = is_empty or depth == b'exclude'
+        found = self.server.part(place, self.server.number(number), not self.target and not is_bare)
         self.base = number
+        self.limits.append(((), depth))
         # (a folder begins empty wherever it stands)
-        self.tree = found if not is_empty else emptied(found) if self.target else ROOT
+        if self.target and found or not is_bare:
+            self.tree = self.shown(found, is_empty, depth)
+        else:
+            self.tree = found if self.target else ROOT
 
-    def source(self, path, url, number, is_empty):
+    def shown(self, found, is_empty, depth):
+        """What there is of it. A bare folder stands for what is left out."""
+        return ROOT if depth == b'exclude' else emptied(found) if is_empty else within(found, depth)
+
+    def source(self, path, url, number, is_empty, depth):
         """What stands where a path is said to come from, in a revision."""
+        if url is not None and len(self.links) == LINKS:
+            raise Denied(200007)
         place = self.place_of(path) if url is None else self.server.linked(url)
         if not fits(place):
             raise Denied(160013)
@@ -223,14 +255,15 @@ class Report:
         self.has_place(path)
         if is_blocked(self.tree, path):
             raise Denied(165004)
-        if place not in tree:
-            raise Denied(160013)
         found = below(tree, place)
-        if not is_empty and not all(fits(self.target + path + it) for it in found):
-            raise Denied(200007)
+        if depth != b'exclude':
+            if not found:
+                raise Denied(160013)
+            if not is_empty and not all(fits(self.target + path + it) for it in found):
+                raise Denied(200007)
         if url is not None:
             self.links.append((path, place))
-        return emptied(found) if is_empty else found
+        return self.shown(found, is_empty, depth)
 
     def has_place(self, path):
         """A path is below the folder, but for a target: nothing may be there, or something else."""
@@ -333,7 +366,7 @@ class Reporting(Reads):
 
     def ordered(self, target, depth, url=None):
         """Where what is wanted stands; what isn't offered is denied before its report."""
-        if 'update' not in ANSWERED or depth not in (b'infinity', b'unknown') or len(target) > 1:
+        if 'update' not in ANSWERED or depth == b'exclude' or len(target) > 1:
             raise Denied(200007)
         place = self.place + target if url is None else self.linked(url)
         if not fits(place):
@@ -353,22 +386,22 @@ class Reporting(Reads):
         number, target, recurse = params.maybe(int), params.path(), params.bool()
         depth = params.perhaps(params.depth, b'infinity' if recurse else b'files')
         self.flags(params)
-        return self.report(number, target, self.ordered(target, depth))
+        return self.report(number, target, self.ordered(target, depth), depth)
 
     def at_switch(self, params):
         number, target, recurse, url = params.maybe(int), params.path(), params.bool(), params.next(bytes)
         depth = params.perhaps(params.depth, b'infinity' if recurse else b'files')
         self.flags(params)
-        return self.report(number, target, self.ordered(target, depth, url), True)
+        return self.report(number, target, self.ordered(target, depth, url), depth, True)
 
     def at_status(self, params):
         target, recurse = params.path(), params.bool()
         number = params.perhaps(lambda: params.maybe(int), None)
         depth = params.perhaps(params.depth, b'infinity' if recurse else b'empty')
-        return self.report(number, target, self.ordered(target, depth), False, False)
+        return self.report(number, target, self.ordered(target, depth), depth, False, False)
 
     def at_diff(self, params):
         number, target, recurse, _, url = params.maybe(int), params.path(), params.bool(), params.bool(), params.next(bytes)
         has_texts = params.perhaps(params.bool, True)
         depth = params.perhaps(params.depth, b'infinity' if recurse else b'files')
-        return self.report(number, target, self.ordered(target, depth, url), True, has_texts)
+        return self.report(number, target, self.ordered(target, depth, url), depth, True, has_texts)

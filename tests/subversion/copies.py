@@ -11,6 +11,7 @@ import xml.etree.ElementTree as xml
 
 # (no file is changed here in the same moment by anything but `svn`, which needn't wait for another one then)
 NO_WAIT = 'SVN_I_LOVE_CORRUPTED_WORKING_COPIES_SO_DISABLE_SLEEP_FOR_TIMESTAMPS'
+DEPTHS = ['empty', 'files', 'immediates', 'infinity']
 # What `svn info` tells of a copy that is not of the repository.
 OWN = ['wcroot-abspath', 'text-updated']
 
@@ -197,6 +198,64 @@ def updated(reader):
     copies.does('update', '-r', str(numbers[0]), 'wc')
     copies.does('update', *('wc/' + it for it in files[-4:]))
     copies.alike('update of what may not be there')
+    return copies.fine
+
+
+def sparse(reader):
+    copies, (main, _) = reader.copies(), main_of(reader)
+    front, (folders, files) = main and main + '/', reader.nodes(reader.head)
+    # (of a file that becomes a folder the repository leaves the file in a copy of files alone, and fails by it later)
+    numbers = [it for it in older_of(reader, main) if not {*reader.nodes(it)[0]} & {*files} | {*reader.nodes(it)[1]} & {*folders}]
+    numbers = numbers if len(numbers) > 1 else [reader.head - 1, reader.head]
+    inside = [it[len(front):] for it in folders if it.startswith(front) and '/' not in it[len(front):]][:2]
+    for depth in DEPTHS[:-1]:
+        for path in (main, ''):
+            copies.does('export', '--depth', depth, reader.at(path, numbers[0]), 'wc')
+            copies.have_files('export of %s with depth %s' % (path, depth))
+            copies.clear()
+        copies.does('checkout', '--depth', depth, reader.at(main, numbers[0]), 'wc')
+        copies.alike('checkout with depth %s' % depth, True)
+        for number in numbers:
+            copies.does('update', '-r', str(number), 'wc')
+            copies.alike('update with depth %s to %d' % (depth, number))
+        # what stands deeper than the rest
+        for path in inside:
+            copies.does('update', '--set-depth', 'files', 'wc/' + path)
+            copies.does('update', '-r', str(numbers[0]), 'wc')
+            copies.alike('update of %s below depth %s' % (path, depth))
+        for deeper in DEPTHS[DEPTHS.index(depth) + 1:]:
+            copies.does('update', '--set-depth', deeper, 'wc')
+            copies.alike('update from depth %s to %s' % (depth, deeper))
+            copies.does('update', '-r', str(numbers[0]), 'wc')
+            copies.alike('update of that to %d' % numbers[0])
+            copies.does('update', 'wc')
+        for shallower in DEPTHS[2::-1]:
+            copies.does('update', '--set-depth', shallower, 'wc')
+            copies.alike('update back to depth %s' % shallower)
+        copies.clear()
+    # what is left out, and what is wanted again
+    copies.does('checkout', reader.at(main), 'wc')
+    for path in inside:
+        copies.does('update', '--set-depth', 'exclude', 'wc/' + path)
+        for number in [*numbers, reader.head]:
+            copies.does('update', '-r', str(number), 'wc')
+            copies.alike('update to %d without %s' % (number, path))
+        copies.sections(b'', 'status', '-u', 'wc')
+        copies.does('update', '--set-depth', 'immediates', 'wc/' + path)
+        copies.alike('some of %s again' % path)
+        copies.does('update', '-r', str(numbers[0]), 'wc')
+        copies.does('update', '--set-depth', 'infinity', 'wc')
+        copies.alike('all of %s again' % path)
+        copies.does('update', 'wc')
+    # commands that look so deep
+    for depth in DEPTHS:
+        copies.does('update', '-r', str(numbers[0]), 'wc')
+        for words in (['status', '-u'], ['update']):
+            copies.sections(b'', *words, '--depth', depth, 'wc')
+            copies.alike('%s --depth %s' % (words[0], depth))
+        for words in (['-r', '%d:%d' % (numbers[1], reader.head), reader.at(main)], ['-r', str(numbers[1]), 'wc']):
+            copies.sections(b'Index: ', 'diff', '--depth', depth, *words)
+        copies.sections(b'', 'diff', '--summarize', '--depth', depth, '-r', '%d:%d' % (reader.head, numbers[1]), reader.at(main))
     return copies.fine
 
 

@@ -1,30 +1,31 @@
 -- What a working copy reports is read as the table has it, and what isn't read is none.
-use Rattle.std.proofs.Common.{◌≡◌, ℕ, Bool, true, false, List, [], ◌∷◌, ap, subst, sym, ◌∙◌, refl, inl, inr, true≢false}
-use Rattle.std.specs.Prelude.{◌⊎◌, ◌||◌, Option, None, Result, Ok, Err, codes, if◌then◌else◌}
+use Rattle.std.proofs.Common.{◌≡◌, ℕ, Bool, true, false, List, [], ◌∷◌, ap, subst, sym, ◌∙◌, refl, true≢false}
+use Rattle.std.specs.Prelude.{◌||◌, Option, None, Result, Ok, Err, codes, if◌then◌else◌}
 use Rattle.std.specs.List.{list_any}
 use Rattle.std.specs.Str.{bytes_eq}
 use Rattle.std.proofs.lemmas.Slice.Eq.{bytes_eq-Decides}
 use Rattle.ra_item.specs.Items.{Item, Items, Then, Word, Nested}
 use Rattle.node_base.specs.Path.{Path}
 use Rattle.ra_wire.specs.Params.{text_in, number_in, bool_in, path_in, bracketed}
-use Rattle.ra_wire.specs.Commands.{Asks}
 use Rattle.browse_wire.specs.declared.depth.DepthWord.{DepthWord}
 use Rattle.browse_wire.specs.declared.depth.DepthWord.TheVariants as said_depth
+use Rattle.browse_wire.specs.declared.depth.Reach.{Reach}
+use Rattle.browse_wire.specs.declared.depth.Reach.TheVariants as reach
 use Rattle.browse_wire.specs.declared.fault.BrowseFault.{BrowseFault}
 use Rattle.browse_wire.specs.declared.fault.BrowseFault.TheVariants as fault
 use Rattle.browse_wire.specs.declared.report.ReportCommand as declared
 use Rattle.browse_wire.specs.Faults.{ReadIs}
-use Rattle.browse_wire.specs.Depths.{IsDepth, depth_in, all_below}
+use Rattle.browse_wire.specs.Depths.{IsDepth, word_of_reach, depth_in, all_below}
 use Rattle.browse_wire.specs.Fields.{IsNumber, IsText, IsTruth, IsPath, Maybe, First, OrMissing, or_missing, then_read}
-use Rattle.browse_wire.specs.Reports.{Reported, Report, SetPath, DeletePath, LinkPath, FinishReport, AbortReport, AreState, IsSetPath, IsLinkPath, Forms, is_report_name, IsUnknown, IsExcluded, Reading, known_depth, with_depth, state_in, made, set_path_in, delete_path_in, link_path_in, named, report_in, report_as, Judged, ReportsAreRead}
+use Rattle.browse_wire.specs.Reports.{Reported, Report, SetPath, DeletePath, LinkPath, FinishReport, AbortReport, AreState, IsSetPath, IsLinkPath, Forms, is_report_name, IsUnknown, Reading, known_depth, with_depth, state_in, made, set_path_in, delete_path_in, link_path_in, named, report_in, report_as, Judged, ReportsAreRead}
 use Rattle.browse_wire.proofs.Placed.{told_next, number_told, number_back, text_told, text_back, path_told, path_back, truth_told, truth_back, depth_told, depth_back, maybe_told, maybe_back, or_told, or_back}
 
 abbrev pub Said : Item → Reading → Type 0
 Said item (Ok r) = Forms r item
 Said item (Err fault.UnknownCommand) = IsUnknown item
-Said item (Err fault.ExcludedDepth) = IsExcluded item
 Said item (Err fault.BadShape) = Unit {0}
 Said item (Err fault.OutOfMemory) = Unit {0}
+Said item (Err fault.ExcludedDepth) = ⊥
 Said item (Err fault.ReplayForm) = ⊥
 
 abbrev full : List ℕ → Items → Items → Item
@@ -60,13 +61,20 @@ state_formed p n empty token depth xs f =
     ∙ ap (λ r. then_read r (λ token c. then_token p n empty token c)) (or_back (Maybe IsText) (bracketed text_in) None (maybe_back IsText text_in text_back) token f.1 f.2 f.6)
     ∙ ap (λ r. then_read r (λ depth d. with_depth p n empty token (known_depth depth))) (or_back IsDepth depth_in all_below depth_back depth f.2 f.3 f.7)
 
+reach_again : (d : Reach) → known_depth (word_of_reach d) ≡ Ok d
+reach_again (reach.To d) = refl
+reach_again reach.Excluded = refl
+
+state_again : (r : Reported) (xs : Items) → AreState r.revision r.start_empty r.token (word_of_reach r.depth) xs → state_in r.path xs ≡ Ok r
+state_again r xs f = state_formed r.path r.revision r.start_empty r.token (word_of_reach r.depth) xs f ∙ ap (with_depth r.path r.revision r.start_empty r.token) (reach_again r.depth)
+
 -- ---- from what is read to the table
 
 set_path_by : (xs zs a : Items) (p : Path) (n : ℕ) (empty : Bool) (token : Option (List ℕ)) (d : DepthWord) → IsSetPath p n empty token d xs
     → Said (full (codes "set-path") xs zs) (made SetPath (with_depth p n empty token (known_depth d)))
 set_path_by xs zs a p n empty token (said_depth.Known d) f = (xs, (zs, refl), f)
 set_path_by xs zs a p n empty token said_depth.AsReported f = tt
-set_path_by xs zs a p n empty token said_depth.Excluded f = (p, [], n, empty, token, inl (xs, (zs, refl), f))
+set_path_by xs zs a p n empty token said_depth.Excluded f = (xs, (zs, refl), f)
 
 set_path_said : (xs zs : Items) → Said (full (codes "set-path") xs zs) (set_path_in xs)
 set_path_said xs zs =
@@ -81,7 +89,7 @@ link_path_by : (xs zs : Items) (p : Path) (url : List ℕ) (n : ℕ) (empty : Bo
     → Said (full (codes "link-path") xs zs) (made (λ r. LinkPath r url) (with_depth p n empty token (known_depth d)))
 link_path_by xs zs p url n empty token (said_depth.Known d) f = (xs, (zs, refl), f)
 link_path_by xs zs p url n empty token said_depth.AsReported f = tt
-link_path_by xs zs p url n empty token said_depth.Excluded f = (p, url, n, empty, token, inr (xs, (zs, refl), f))
+link_path_by xs zs p url n empty token said_depth.Excluded f = (xs, (zs, refl), f)
 
 link_path_said : (xs zs : Items) → Said (full (codes "link-path") xs zs) (link_path_in xs)
 link_path_said xs zs =
@@ -139,13 +147,13 @@ pub formed : ReportsAreRead
 formed (SetPath r) item f =
     ap report_in f.1.1
     ∙ ap (λ q. then_read q (λ p a. made SetPath (state_in p a))) (path_back r.path f.0 f.2.0 f.2.1)
-    ∙ ap (made SetPath) (state_formed r.path r.revision r.start_empty r.token (said_depth.Known r.depth) f.2.0 f.2.2)
+    ∙ ap (made SetPath) (state_again r f.2.0 f.2.2)
 formed (DeletePath p) item f = ap report_in f.1.1 ∙ ap (λ q. then_read q (λ p a. Ok (DeletePath p))) (path_back p f.0 f.2.0 f.2.1)
 formed (LinkPath r url) item f =
     ap report_in f.1.1
     ∙ ap (λ q. then_read q (λ p a. then_read (text_in a) (λ url b. made (λ s. LinkPath s url) (state_in p b)))) (path_back r.path f.0 f.2.0 f.2.2)
     ∙ ap (λ q. then_read q (λ url b. made (λ s. LinkPath s url) (state_in r.path b))) (text_back url f.2.0 f.2.1 f.2.3)
-    ∙ ap (made (λ s. LinkPath s url)) (state_formed r.path r.revision r.start_empty r.token (said_depth.Known r.depth) f.2.1 f.2.4)
+    ∙ ap (made (λ s. LinkPath s url)) (state_again r f.2.1 f.2.4)
 formed FinishReport item f = ap report_in f.1.1
 formed AbortReport item f = ap report_in f.1.1
 
@@ -175,32 +183,11 @@ unknown_named w ps e =
 unknown : (item : Item) → IsUnknown item → report_in item ≡ Err fault.UnknownCommand
 unknown item u = ap report_in u.1.1.1 ∙ unknown_named u.0 u.1.0 u.2
 
-excluded_set : (item : Item) (p : Path) (n : ℕ) (empty : Bool) (token : Option (List ℕ)) → Asks (codes "set-path") (IsSetPath p n empty token said_depth.Excluded) item → report_in item ≡ Err fault.ExcludedDepth
-excluded_set item p n empty token f =
-    ap report_in f.1.1
-    ∙ ap (λ q. then_read q (λ p a. made SetPath (state_in p a))) (path_back p f.0 f.2.0 f.2.1)
-    ∙ ap (made SetPath) (state_formed p n empty token said_depth.Excluded f.2.0 f.2.2)
-
-excluded_link : (item : Item) (p : Path) (url : List ℕ) (n : ℕ) (empty : Bool) (token : Option (List ℕ)) → Asks (codes "link-path") (IsLinkPath p url n empty token said_depth.Excluded) item → report_in item ≡ Err fault.ExcludedDepth
-excluded_link item p url n empty token f =
-    ap report_in f.1.1
-    ∙ ap (λ q. then_read q (λ p a. then_read (text_in a) (λ url b. made (λ s. LinkPath s url) (state_in p b)))) (path_back p f.0 f.2.0 f.2.2)
-    ∙ ap (λ q. then_read q (λ url b. made (λ s. LinkPath s url) (state_in p b))) (text_back url f.2.0 f.2.1 f.2.3)
-    ∙ ap (made (λ s. LinkPath s url)) (state_formed p n empty token said_depth.Excluded f.2.1 f.2.4)
-
-excluded_of : (item : Item) (p : Path) (url : List ℕ) (n : ℕ) (empty : Bool) (token : Option (List ℕ))
-    → Asks (codes "set-path") (IsSetPath p n empty token said_depth.Excluded) item ⊎ Asks (codes "link-path") (IsLinkPath p url n empty token said_depth.Excluded) item → report_in item ≡ Err fault.ExcludedDepth
-excluded_of item p url n empty token (inl f) = excluded_set item p n empty token f
-excluded_of item p url n empty token (inr f) = excluded_link item p url n empty token f
-
 bad_is_none : (r : Report) → ◌≡◌ {A = Reading} (Err fault.BadShape) (Ok r) → ⊥
 bad_is_none r e = cc
 
 bad_is_known : ◌≡◌ {A = Reading} (Err fault.BadShape) (Err fault.UnknownCommand) → ⊥
 bad_is_known e = cc
-
-bad_is_kept : ◌≡◌ {A = Reading} (Err fault.BadShape) (Err fault.ExcludedDepth) → ⊥
-bad_is_kept e = cc
 
 -- what a call took an item for, by what it read
 pub judged : (item : Item) (r : Result declared.ReportCommand BrowseFault) → ReadIs report_as r (report_in item) → Judged item r
@@ -211,6 +198,5 @@ judged item (Err fault.ExcludedDepth) e = subst (Said item) e (said item)
 judged item (Err fault.BadShape) e = record {
   no_report = λ r f. bad_is_none r (sym e ∙ formed r item f);
   known = λ u. bad_is_known (sym e ∙ unknown item u);
-  kept = λ x. bad_is_kept (sym e ∙ excluded_of item x.0 x.1 x.2 x.3 x.4 x.5);
 }
 judged item (Err fault.OutOfMemory) e = tt

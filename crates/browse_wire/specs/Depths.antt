@@ -10,6 +10,8 @@ use Rattle.browse_wire.specs.declared.depth.Depth.{Depth}
 use Rattle.browse_wire.specs.declared.depth.Depth.TheVariants as depth
 use Rattle.browse_wire.specs.declared.depth.DepthWord.{DepthWord}
 use Rattle.browse_wire.specs.declared.depth.DepthWord.TheVariants as said
+use Rattle.browse_wire.specs.declared.depth.Reach.{Reach}
+use Rattle.browse_wire.specs.declared.depth.Reach.TheVariants as reach
 
 -- the words
 abbrev pub depth_text : DepthWord → List ℕ
@@ -27,6 +29,11 @@ IsDepth d x = x ≡ Word (depth_text d)
 abbrev pub word_of : Option Depth → DepthWord
 word_of (Some d) = said.Known d
 word_of None = said.AsReported
+
+-- a path that is left out has a word of its own
+abbrev pub word_of_reach : Reach → DepthWord
+word_of_reach (reach.To d) = said.Known d
+word_of_reach reach.Excluded = said.Excluded
 
 -- where the depth is missing: everything, or what an older client's word on recursion says
 abbrev pub all_below : DepthWord
@@ -59,7 +66,7 @@ abbrev pub depth_in : Items → Read DepthWord
 depth_in (Then (Word w) xs) = option_map (λ d. (d, xs)) (depth_named w)
 depth_in _ = None
 
--- a depth that leaves a path out is refused by its name
+-- in a command, a depth that leaves a path out is refused by its name
 abbrev pub unless_excluded : {T : Type 0} → DepthWord → T → Result T BrowseFault
 unless_excluded said.Excluded x = Err fault.ExcludedDepth
 unless_excluded (said.Known d) x = Ok x

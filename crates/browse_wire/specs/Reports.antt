@@ -1,6 +1,6 @@
 -- What a working copy reports: the table of the items that are which, and how they are read. What stands behind the last element
 -- of a prototype is ignored.
-use Rattle.std.specs.Prelude.{◌≡◌, ◌⊎◌, ℕ, Bool, false, List, [], ◌∷◌, Option, Some, None, Result, Ok, Err, codes, if◌then◌else◌}
+use Rattle.std.specs.Prelude.{◌≡◌, ℕ, Bool, false, List, [], ◌∷◌, Option, Some, None, Result, Ok, Err, codes, if◌then◌else◌}
 use Rattle.std.specs.Option.{option_map}
 use Rattle.std.specs.List.{list_any}
 use Rattle.std.specs.Str.{bytes_eq}
@@ -8,24 +8,25 @@ use Rattle.ra_item.specs.Items.{Item, Items}
 use Rattle.node_base.specs.Path.{Path}
 use Rattle.ra_wire.specs.Params.{parts_in, word_in, text_in, number_in, list_in, bool_in, path_in, bracketed}
 use Rattle.ra_wire.specs.Commands.{Asks, Begin}
-use Rattle.browse_wire.specs.Depths.{IsDepth, depth_in, all_below}
+use Rattle.browse_wire.specs.Depths.{IsDepth, word_of_reach, depth_in, all_below}
 use Rattle.browse_wire.specs.Fields.{IsNumber, IsText, IsTruth, IsPath, Maybe, First, OrMissing, or_missing, then_read}
-use Rattle.browse_wire.specs.declared.depth.Depth.{Depth}
 use Rattle.browse_wire.specs.declared.depth.DepthWord.{DepthWord}
 use Rattle.browse_wire.specs.declared.depth.DepthWord.TheVariants as said
+use Rattle.browse_wire.specs.declared.depth.Reach.{Reach}
+use Rattle.browse_wire.specs.declared.depth.Reach.TheVariants as reach
 use Rattle.browse_wire.specs.declared.fault.BrowseFault.{BrowseFault}
 use Rattle.browse_wire.specs.declared.fault.BrowseFault.TheVariants as fault
 use Rattle.browse_wire.specs.declared.report.ReportCommand as declared
 use Rattle.browse_wire.specs.declared.report.ReportCommand.TheVariants as coded
 use Rattle.browse_wire.specs.declared.report.Reported as declared_reported
 
--- how a path stands in a working copy: the revision, whether as an empty directory, a lock's token, and how far below
+-- how a path stands in a working copy: the revision, whether as an empty directory, a lock's token, and how much of it there is
 pub record Reported : Type 0 where
   pub path : Path
   pub revision : ℕ
   pub start_empty : Bool
   pub token : Option (List ℕ)
-  pub depth : Depth
+  pub depth : Reach
 
 pub data Report : Type 0 where
   SetPath : Reported → Report
@@ -51,9 +52,9 @@ IsLinkPath p url n empty token depth xs = (a b : Items) × First IsPath p xs a �
 -- ---- the table
 
 abbrev pub Forms : Report → Item → Type 0
-Forms (SetPath r) item = Asks (codes "set-path") (IsSetPath r.path r.revision r.start_empty r.token (said.Known r.depth)) item
+Forms (SetPath r) item = Asks (codes "set-path") (IsSetPath r.path r.revision r.start_empty r.token (word_of_reach r.depth)) item
 Forms (DeletePath p) item = Asks (codes "delete-path") (λ xs. (a : Items) × First IsPath p xs a) item
-Forms (LinkPath r url) item = Asks (codes "link-path") (IsLinkPath r.path url r.revision r.start_empty r.token (said.Known r.depth)) item
+Forms (LinkPath r url) item = Asks (codes "link-path") (IsLinkPath r.path url r.revision r.start_empty r.token (word_of_reach r.depth)) item
 Forms FinishReport item = Asks (codes "finish-report") (Begin []) item
 Forms AbortReport item = Asks (codes "abort-report") (Begin []) item
 
@@ -68,28 +69,22 @@ is_report_name w = list_any (bytes_eq w) names
 abbrev pub IsUnknown : Item → Type 0
 IsUnknown item = (name : List ℕ) × Asks name (Begin []) item × (is_report_name name ≡ false)
 
--- a path with the depth `exclude`
-abbrev pub IsExcluded : Item → Type 0
-IsExcluded item = (p : Path) × (url : List ℕ) × (n : ℕ) × (empty : Bool) × (token : Option (List ℕ))
-    × (Asks (codes "set-path") (IsSetPath p n empty token said.Excluded) item ⊎ Asks (codes "link-path") (IsLinkPath p url n empty token said.Excluded) item)
-
 pub record IsBad (item : Item) : Type 0 where
   pub no_report : (r : Report) → Forms r item → ⊥
   pub known : IsUnknown item → ⊥
-  pub kept : IsExcluded item → ⊥
 
 -- ---- as they are read
 
 abbrev pub Reading : Type 0
 Reading = Result Report BrowseFault
 
--- a depth of a report is a known one
-abbrev pub known_depth : DepthWord → Result Depth BrowseFault
-known_depth (said.Known d) = Ok d
+-- a depth of a report is a known one, or leaves the path out
+abbrev pub known_depth : DepthWord → Result Reach BrowseFault
+known_depth (said.Known d) = Ok (reach.To d)
 known_depth said.AsReported = Err fault.BadShape
-known_depth said.Excluded = Err fault.ExcludedDepth
+known_depth said.Excluded = Ok reach.Excluded
 
-abbrev pub with_depth : Path → ℕ → Bool → Option (List ℕ) → Result Depth BrowseFault → Result Reported BrowseFault
+abbrev pub with_depth : Path → ℕ → Bool → Option (List ℕ) → Result Reach BrowseFault → Result Reported BrowseFault
 with_depth p n empty token (Ok d) = Ok (record { path = p; revision = n; start_empty = empty; token = token; depth = d })
 with_depth p n empty token (Err f) = Err f
 
@@ -138,9 +133,9 @@ report_as coded.AbortReport = AbortReport
 abbrev pub Judged : Item → Result declared.ReportCommand BrowseFault → Type 0
 Judged item (Ok r) = Forms (report_as r) item
 Judged item (Err fault.UnknownCommand) = IsUnknown item
-Judged item (Err fault.ExcludedDepth) = IsExcluded item
 Judged item (Err fault.BadShape) = IsBad item
 Judged item (Err fault.OutOfMemory) = Unit {0}
+Judged item (Err fault.ExcludedDepth) = ⊥
 Judged item (Err fault.ReplayForm) = ⊥
 
 -- ---- laws

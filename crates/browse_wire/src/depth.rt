@@ -20,6 +20,15 @@ pub enum Depth {
     Infinity,
 }
 
+/// How much of a path a working copy has.
+#[derive(Clone, Copy, Debug, PartialEq, Eq, Drop)]
+pub enum Reach {
+    /// It reaches so far below it.
+    To(Depth),
+    /// `exclude`: the path is left out.
+    Excluded,
+}
+
 /// A word for a depth.
 #[derive(Clone, Copy, Debug, PartialEq, Eq, Drop)]
 pub enum DepthWord {

@@ -20,7 +20,7 @@ pub enum BrowseFault {
     /// An item of another shape.
     #[error("bad command shape")]
     BadShape,
-    /// A depth that leaves a path out.
+    /// A command with a depth that leaves a path out.
     #[error("depth 'exclude' not supported")]
     ExcludedDepth,
     /// A growth was refused.

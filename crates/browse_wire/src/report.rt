@@ -7,7 +7,7 @@ ghost use Rattle.browse_wire.specs.Depths.{all_below};
 ghost use Rattle.browse_wire.specs.Reports.{report_as, reported_as, report_in, named, known_depth};
 ghost use Rattle.browse_wire.specs.Reports.{set_path_in, delete_path_in, link_path_in, state_in, Judged};
 
-use crate::depth::{Depth, DepthWord};
+use crate::depth::{Depth, DepthWord, Reach};
 use crate::fault::BrowseFault;
 use crate::fields::{
     depth_or, maybe_text_or_none, next_list, next_number, next_path, next_text, next_truth,
@@ -27,7 +27,8 @@ pub struct Reported {
     pub start_empty: bool,
     /// The token of a lock on it.
     pub token: Option<Vec<u8>>,
-    pub depth: Depth,
+    /// How much of it there is.
+    pub depth: Reach,
 }
 
 /// What a working copy reports of itself.
@@ -46,8 +47,8 @@ pub enum ReportCommand {
 }
 
 impl ReportCommand {
-    /// What an item reports. `UnknownCommand` for another name; `ExcludedDepth` for a path with the depth `exclude`;
-    /// `BadShape` for any other item that reports nothing; `OutOfMemory`.
+    /// What an item reports. `UnknownCommand` for another name; `BadShape` for any other item that reports nothing;
+    /// `OutOfMemory`.
     pub fn parse(alloc: Global, item: Item) -> Result<ReportCommand, BrowseFault>
         ensures read { ReadIs report_as result (report_in item) }
         ensures judged { Judged item result }
@@ -125,12 +126,12 @@ fn state(path: NodePath, params: &mut Params) -> Result<Reported, BrowseFault>
 }
 
 // The depth of a report.
-fn known_depth(word: DepthWord) -> Result<Depth, BrowseFault>
+fn known_depth(word: DepthWord) -> Result<Reach, BrowseFault>
     ensures { result ≡ known_depth word }
 {
     match word {
-        DepthWord::Known(depth) => Ok(depth),
+        DepthWord::Known(depth) => Ok(Reach::To(depth)),
         DepthWord::AsReported => Err(BrowseFault::BadShape),
-        DepthWord::Excluded => Err(BrowseFault::ExcludedDepth),
+        DepthWord::Excluded => Ok(Reach::Excluded),
     }
 }

@@ -25,6 +25,8 @@ mod reach_tests;
 #[cfg(test)]
 mod report_tests;
 #[cfg(test)]
+mod sparse_tests;
+#[cfg(test)]
 mod tree_tests;
 #[cfg(test)]
 mod trees;

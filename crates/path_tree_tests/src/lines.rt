@@ -82,7 +82,7 @@ fn parts_letter(parts: Parts) -> &'static str {
         (true, true) => "B ",
         (true, false) => "P ",
         (false, true) => "T ",
-        (false, false) => "? ",
+        (false, false) => "O ",
     }
 }
 
@@ -97,8 +97,20 @@ fn put_path(rt: &impl Abort, out: &mut String, path: &[&NodeName]) {
 
 /// A line for each difference of two trees.
 pub(crate) fn told(rt: &impl Abort, alloc: Global, old: &Tree, new: &Tree, depth: Depth) -> String {
+    told_opening(rt, alloc, old, new, depth, false)
+}
+
+/// The same, where folders may be told though nothing differs in them.
+pub(crate) fn told_opening(
+    rt: &impl Abort,
+    alloc: Global,
+    old: &Tree,
+    new: &Tree,
+    depth: Depth,
+    opens: bool,
+) -> String {
     let mut out = String::new(alloc);
-    for difference in &differences(alloc, old, new, depth).expect(rt, "memory") {
+    for difference in &differences(alloc, old, new, depth, opens).expect(rt, "memory") {
         out.push_str(letter_of(&difference.change))
             .expect(rt, "memory");
         put_path(rt, &mut out, difference.path.as_slice());

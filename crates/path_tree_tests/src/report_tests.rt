@@ -61,6 +61,68 @@ fn a_report_is_what_the_working_copy_has(rt: HostRuntime) {
     assert!(rt; empty_holds(&rt, rt.alloc()));
 }
 
+// A folder with a folder in it, and a file beside it.
+const SOURCE: &str = "-C lib\nHF lib/a.c\n-- lib/sub\nA- lib/sub/x\nB- file\n";
+
+// A source, how deep it is looked at, and what the working copy then has.
+const WITHIN: [(&str, Depth, &str); 6] = [
+    ("lib", Depth::Empty, "-C d\n"),
+    ("lib", Depth::Files, "-C d\nHF d/a.c\n"),
+    ("lib", Depth::Immediates, "-C d\nHF d/a.c\n-- d/sub\n"),
+    (
+        "lib",
+        Depth::Infinity,
+        "-C d\nHF d/a.c\n-- d/sub\nA- d/sub/x\n",
+    ),
+    ("file", Depth::Empty, "B- d\n"),
+    ("file", Depth::Infinity, "B- d\n"),
+];
+
+// Whether a path that is looked at so deep, where another folder was, is as it is wanted.
+fn within_holds(rt: &impl Abort, alloc: Global, source: &str, depth: Depth, wanted: &str) -> bool {
+    let from = tree_of(rt, alloc, SOURCE);
+    let path = path_of(rt, alloc, "d");
+    let mut report = Report::begin(tree_of(rt, alloc, "-- d\nA- d/old\n"));
+    let source = path_of(rt, alloc, source);
+    report
+        .set_path_within(alloc, &path, &from, &source, depth)
+        .expect(rt, "d");
+    let wanted = tree_of(rt, alloc, wanted);
+    told(rt, alloc, report.tree(), &wanted, Depth::Infinity).is_empty()
+}
+
+#[test]
+fn a_path_is_reported_so_deep(rt: HostRuntime) {
+    for (source, depth, wanted) in &WITHIN {
+        assert!(rt; within_holds(&rt, rt.alloc(), *source, *depth, *wanted));
+    }
+}
+
+// A folder that is left out is bare, and so is a file that is.
+fn left_out_holds(rt: &impl Abort, alloc: Global) -> bool {
+    let mut report = Report::begin(tree_of(rt, alloc, SOURCE));
+    let wanted = tree_of(rt, alloc, "-- lib\n-- file\n");
+    for path in &["lib", "file"] {
+        let left = report.leave_out(alloc, &path_of(rt, alloc, *path));
+        left.expect(rt, "a path");
+    }
+    told(rt, alloc, report.tree(), &wanted, Depth::Infinity).is_empty()
+}
+
+// The number of the answer to a path that is to be left out of a file and a folder.
+fn leave(rt: &impl Abort, alloc: Global, path: &str) -> u8 {
+    let mut report = Report::begin(tree_of(rt, alloc, SOURCE));
+    number_of(report.leave_out(alloc, &path_of(rt, alloc, path)))
+}
+
+#[test]
+fn a_path_is_left_out(rt: HostRuntime) {
+    let alloc = rt.alloc();
+    assert!(rt; left_out_holds(&rt, alloc));
+    assert!(rt; leave(&rt, alloc, "") == 1);
+    assert!(rt; leave(&rt, alloc, "file/x") == 2 && leave(&rt, alloc, "lib/none") == 0);
+}
+
 // Path, source, whether it begins empty, and the number of the answer, 0 where it is taken.
 const REPORTS: [(&str, &str, bool, u8); 9] = [
     ("", "lib", false, 1),

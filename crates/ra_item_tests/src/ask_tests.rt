@@ -37,16 +37,18 @@ const ASKS: &str = "( get-latest-rev ( ) ) = ( get-latest-rev ( ) ) plain
 stat = bad command shape";
 
 // An item, and what it reports.
-const REPORTS: &str = "( set-path ( 0: 10 true ( ) infinity ) ) = set / 10 true Infinity
-( set-path ( 0: 8 true ( ) files ) ) = set / 8 true Files
-( set-path ( 1:a 8 false ( 3:tok ) ) ) = set /a 8 false Infinity tok
-( set-path ( 1:a 8 false ) ) = set /a 8 false Infinity
+const REPORTS: &str = "( set-path ( 0: 10 true ( ) infinity ) ) = set / 10 true To(Infinity)
+( set-path ( 0: 8 true ( ) files ) ) = set / 8 true To(Files)
+( set-path ( 1:a 8 false ( 3:tok ) ) ) = set /a 8 false To(Infinity) tok
+( set-path ( 1:a 8 false ) ) = set /a 8 false To(Infinity)
+( set-path ( 1:a 8 false ( ) exclude ) ) = set /a 8 false Excluded
 ( delete-path ( 3:a/b ) ) = delete /a/b
-( link-path ( 2:b1 27:svn://127.0.0.1:42118/trunk 7 false ( ) infinity ) ) = link /b1 7 false Infinity svn://127.0.0.1:42118/trunk
+( link-path ( 2:b1 27:svn://127.0.0.1:42118/trunk 7 false ( ) infinity ) ) = link /b1 7 false To(Infinity) svn://127.0.0.1:42118/trunk
+( link-path ( 2:b1 11:svn://h/a/b 7 false ( ) exclude ) ) = link /b1 7 false Excluded svn://h/a/b
 ( finish-report ( ) ) = finish
 ( abort-report ( ) ) = abort
-( set-path ( 1:a 8 false ( ) exclude ) ) = depth 'exclude' not supported
 ( set-path ( 1:a 8 false ( ) unknown ) ) = bad command shape
+( link-path ( 2:b1 11:svn://h/a/b 7 false ( ) unknown ) ) = bad command shape
 ( success ( ) ) = unknown command";
 
 // The first line whose item doesn't come to what stands beside it, as what is asked or as what is reported.

@@ -54,7 +54,7 @@ halts (t ∷ ts) = halts_in t.added.halt + halts ts
 -- ---- the opening
 
 abbrev pub greeting : Item
-greeting = success (Number 2 ∷ Number 2 ∷ list [] ∷ list (Word (codes "edit-pipeline") ∷ []) ∷ [])
+greeting = success (Number 2 ∷ Number 2 ∷ list [] ∷ list (Word (codes "edit-pipeline") ∷ Word (codes "depth") ∷ []) ∷ [])
 
 -- a URL that names no place: its path is past the limits, or it is another
 abbrev pub place_read : Result Url UrlFault → Result Url Refusal

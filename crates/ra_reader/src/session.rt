@@ -147,28 +147,29 @@ fn greet<W: Write + Drop>(out: W) -> Result<W, ServeFault>
 fn write_greeting<W: Write>(out: &mut W) -> io::Result<()>
     ensures { OnOk result (Appends (W.contents out.old) (W.contents out.new) (spell greeting)) }
 {
-    write_versions(out, b"success", b"edit-pipeline")
+    write_versions(out, b"success", b"edit-pipeline", b"depth")
 }
 
-// The greeting, with its name and the capability.
-fn write_versions<W: Write>(out: &mut W, name: &[u8], capability: &[u8]) -> io::Result<()>
+// The greeting, with its name and two capabilities.
+fn write_versions<W: Write>(out: &mut W, name: &[u8], first: &[u8], second: &[u8]) -> io::Result<()>
     ensures { OnOk result (Appends (W.contents out.old) (W.contents out.new)
-        (spell (answer_of name.now (Number 2 ∷ Number 2 ∷ list [] ∷ list (Word capability.now ∷ []) ∷ [])))) }
+        (spell (answer_of name.now (Number 2 ∷ Number 2 ∷ list [] ∷ list (Word first.now ∷ Word second.now ∷ []) ∷ [])))) }
 {
     write_name(out, name)?;
     write_number(out, 2)?;
     write_number(out, 2)?;
     write_none(out)?;
-    write_one(out, capability)?;
+    write_two(out, first, second)?;
     write_end(out)
 }
 
 // A word in brackets.
-fn write_one<W: Write>(out: &mut W, word: &[u8]) -> io::Result<()>
-    ensures { OnOk result (Appends (W.contents out.old) (W.contents out.new) (spell (list (Word word.now ∷ [])))) }
+fn write_two<W: Write>(out: &mut W, first: &[u8], second: &[u8]) -> io::Result<()>
+    ensures { OnOk result (Appends (W.contents out.old) (W.contents out.new) (spell (list (Word first.now ∷ Word second.now ∷ [])))) }
 {
     write_open(out)?;
-    write_word(out, word)?;
+    write_word(out, first)?;
+    write_word(out, second)?;
     write_close(out)
 }
 

@@ -14,7 +14,7 @@ use std::process::Abort;
 pub(crate) const ROOT: &[u8] = b"svn://127.0.0.1:3690";
 
 /// What a session is told, piece by piece.
-pub(crate) const GREETING: &[u8] = b"( success ( 2 2 ( ) ( edit-pipeline ) ) ) ";
+pub(crate) const GREETING: &[u8] = b"( success ( 2 2 ( ) ( edit-pipeline depth ) ) ) ";
 
 pub(crate) const MECHANISMS: &[u8] =
     b"( success ( ( ANONYMOUS ) 36:6a1f0c3e-0000-4000-8000-0000000000b7 ) ) ";

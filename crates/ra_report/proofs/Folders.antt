@@ -8,10 +8,9 @@ use Rattle.node_base.specs.Tree.{PathMap, IsDirAt, IsTree, alone, blocked, graft
 use Rattle.node_base.specs.declared.fault.TreeFault.TheVariants.{NoSuchPath, NotDir}
 use Rattle.node_base.specs.declared.node.Node.{Node}
 use Rattle.path_tree.specs.Copies.{copy_too_long}
-use Rattle.path_tree.proofs.Fronts.{nothing_below}
 use Rattle.dump_load.specs.Faults.{fault_if}
-use Rattle.tree_reports.specs.Applied.{Content, content}
-use Rattle.tree_reports.specs.Reports.{brought, content_at, emptied, placed}
+use Rattle.tree_reports.specs.Applied.{content}
+use Rattle.tree_reports.specs.Reports.{content_at, placed}
 use Rattle.repo_core.specs.Repository.{Repository}
 use Rattle.ra_serve.specs.Answers.{asked}
 use Rattle.ra_serve.specs.Ports as port
@@ -24,7 +23,9 @@ use Rattle.ra_browse.specs.Tellings.{Comes, Decides, Denies}
 use Rattle.ra_browse.proofs.Causes.{is_there}
 use Rattle.ra_report.specs.Orders.{is_short, place_denied, wanted_denied, wanted_in}
 use Rattle.ra_report.specs.Plans.{IsWanted, IsCopy}
-use Rattle.ra_report.specs.Reports.{having, bare, begun, begun_denied, placing_denied}
+use Rattle.ra_report.specs.Reports.{having, begun, begun_denied, folder_denied, placing_denied}
+use Rattle.ra_report.specs.Shown.{bare, brought}
+use Rattle.ra_report.specs.declared.shown.Shown.{Shown}
 use Rattle.ra_report.specs.declared.plan.Wanted.{Wanted}
 use Rattle.ra_report.specs.declared.plan.WorkingCopy.{WorkingCopy}
 use Rattle.ra_report.proofs.Calls.{then_comes, then_decides}
@@ -79,70 +80,45 @@ over_alone f g t new h is q = is q ∙ ap (λ o. option_map_or g (rest_after t q
 
 -- ---- what is reported first
 
-pub begun_comes : (x : Repository) (n : ℕ) (p t : Path) (empty : Bool) (base : ℕ) (tree : PathMap) (k m : ℕ) (r : Result WorkingCopy Stop) → port.no_revision x n ≡ None → base ≡ n → tree ≡ tree_of x n
-    → Decides (begun_denied t empty tree p) (λ c. (c.base ≡ base) × (c.switches.items ≡ []) × ((q : Path) → content_at c.report q ≡ begun t empty tree p q)) r
-    → Comes k m (option_or (no_revision x n) (begun_denied t empty (tree_of x n) p)) (IsCopy (having (begun t empty (tree_of x n) p) []) (Some n)) r
-begun_comes x n p t empty base tree k m r h e same d =
-    then_decides k m (no_revision x n) (begun_denied t empty (tree_of x n) p) (λ c. (c.base ≡ base) × (c.switches.items ≡ []) × ((q : Path) → content_at c.report q ≡ begun t empty (tree_of x n) p q)) (IsCopy (having (begun t empty (tree_of x n) p) []) (Some n)) r (is_there x n h)
-    (λ c i. record { has = same_having (content_at c.report) (begun t empty (tree_of x n) p) c.switches.items [] i.2 i.1; base_is = ap (λ b. Some b) (i.0 ∙ e) })
-    (subst (λ v. Decides (begun_denied t empty v p) (λ c. (c.base ≡ base) × (c.switches.items ≡ []) × ((q : Path) → content_at c.report q ≡ begun t empty v p q)) r) same d)
+pub begun_comes : (x : Repository) (n : ℕ) (p t : Path) (s : Shown) (base : ℕ) (tree : PathMap) (k m : ℕ) (r : Result WorkingCopy Stop) → port.no_revision x n ≡ None → base ≡ n → tree ≡ tree_of x n
+    → Decides (begun_denied t s tree p) (λ c. (c.base ≡ base) × (c.switches.items ≡ []) × ((q : Path) → content_at c.report q ≡ begun t s tree p q)) r
+    → Comes k m (option_or (no_revision x n) (begun_denied t s (tree_of x n) p)) (IsCopy (having (begun t s (tree_of x n) p) []) (Some n)) r
+begun_comes x n p t s base tree k m r h e same d =
+    then_decides k m (no_revision x n) (begun_denied t s (tree_of x n) p) (λ c. (c.base ≡ base) × (c.switches.items ≡ []) × ((q : Path) → content_at c.report q ≡ begun t s (tree_of x n) p q)) (IsCopy (having (begun t s (tree_of x n) p) []) (Some n)) r (is_there x n h)
+    (λ c i. record { has = same_having (content_at c.report) (begun t s (tree_of x n) p) c.switches.items [] i.2 i.1; base_is = ap (λ b. Some b) (i.0 ∙ e) })
+    (subst (λ v. Decides (begun_denied t s v p) (λ c. (c.base ≡ base) × (c.switches.items ≡ []) × ((q : Path) → content_at c.report q ≡ begun t s v p q)) r) same d)
 
-pub here_comes : (x : Repository) (n : ℕ) (p source t : Path) (empty : Bool) (k m : ℕ) (r : Result WorkingCopy Stop) → fault_if (not (fits p)) denial.NoPath ≡ None → source ≡ p
-    → Comes k m (option_or (no_revision x n) (begun_denied t empty (tree_of x n) source)) (IsCopy (having (begun t empty (tree_of x n) source) []) (Some n)) r
-    → Comes k m (option_or (fault_if (not (fits p)) denial.NoPath) (option_or (no_revision x n) (begun_denied t empty (tree_of x n) p))) (IsCopy (having (begun t empty (tree_of x n) p) []) (Some n)) r
-here_comes x n p source t empty k m r d e h =
-    let Is = IsCopy (having (begun t empty (tree_of x n) p) []) (Some n) in
-    then_comes k k m (fault_if (not (fits p)) denial.NoPath) (option_or (no_revision x n) (begun_denied t empty (tree_of x n) p)) Is Is r (omega arith) d (λ v i. i)
-    (subst (λ s. Comes k m (option_or (no_revision x n) (begun_denied t empty (tree_of x n) s)) (IsCopy (having (begun t empty (tree_of x n) s) []) (Some n)) r) e h)
-
--- a folder that begins empty, or as it stands in a tree
-pub begun_true : (empty : Bool) (d : Option Denial) (m : PathMap) (p : Path) (r : PathMap) → empty ≡ true → ((q : Path) → finite.get r q ≡ alone new_dir q) → (cond empty None d ≡ None) × ((q : Path) → content_at r q ≡ begun [] empty m p q)
-begun_true empty d m p r e h = subst (λ b. (cond b None d ≡ None) × ((q : Path) → content_at r q ≡ begun [] b m p q)) (sym e) (refl, λ q. ap (option_map content) (h q))
-
-pub begun_false : (empty : Bool) (d : Option Denial) (m : PathMap) (p : Path) (r t : PathMap) → empty ≡ false → d ≡ None → r ≡ t → ((q : Path) → finite.get t q ≡ finite.get m (p ++ q)) → (cond empty None d ≡ None) × ((q : Path) → content_at r q ≡ begun [] empty m p q)
-begun_false empty d m p r t e k a h = subst (λ b. (cond b None d ≡ None) × ((q : Path) → content_at r q ≡ begun [] b m p q)) (sym e) (k, λ q. ap (λ v. content_at v q) a ∙ ap (option_map content) (h q))
-
-pub begun_denies : (empty : Bool) (d : Option Denial) (s : Stop) → empty ≡ false → Denies d s → Denies (cond empty None d) s
-begun_denies empty d s e h = subst (λ b. Denies (cond b None d) s) (sym e) h
+pub here_comes : (x : Repository) (n : ℕ) (p source t : Path) (s : Shown) (k m : ℕ) (r : Result WorkingCopy Stop) → fault_if (not (fits p)) denial.NoPath ≡ None → source ≡ p
+    → Comes k m (option_or (no_revision x n) (begun_denied t s (tree_of x n) source)) (IsCopy (having (begun t s (tree_of x n) source) []) (Some n)) r
+    → Comes k m (option_or (fault_if (not (fits p)) denial.NoPath) (option_or (no_revision x n) (begun_denied t s (tree_of x n) p))) (IsCopy (having (begun t s (tree_of x n) p) []) (Some n)) r
+here_comes x n p source t s k m r d e h =
+    let Is = IsCopy (having (begun t s (tree_of x n) p) []) (Some n) in
+    then_comes k k m (fault_if (not (fits p)) denial.NoPath) (option_or (no_revision x n) (begun_denied t s (tree_of x n) p)) Is Is r (omega arith) d (λ v i. i)
+    (subst (λ v. Comes k m (option_or (no_revision x n) (begun_denied t s (tree_of x n) v)) (IsCopy (having (begun t s (tree_of x n) v) []) (Some n)) r) e h)
 
 -- the folder, or a target
-pub begun_root : (empty : Bool) (m : PathMap) (p t : Path) (r : Result PathMap Stop) → same_path t [] ≡ true → Decides (cond empty None (dir_denied (finite.get m p))) (λ v. (q : Path) → content_at v q ≡ begun [] empty m p q) r
-    → Decides (begun_denied t empty m p) (λ v. (q : Path) → content_at v q ≡ begun t empty m p q) r
-begun_root empty m p [] r e h = h
-begun_root empty m p (n ∷ t) r e h = absurd cc
+pub begun_root : (s : Shown) (m : PathMap) (p t : Path) (r : Result PathMap Stop) → same_path t [] ≡ true → Decides (folder_denied s (finite.get m p)) (λ v. (q : Path) → content_at v q ≡ begun [] s m p q) r
+    → Decides (begun_denied t s m p) (λ v. (q : Path) → content_at v q ≡ begun t s m p q) r
+begun_root s m p [] r e h = h
+begun_root s m p (n ∷ t) r e h = absurd cc
 
-pub begun_named : (empty : Bool) (m : PathMap) (p t : Path) (r : Result PathMap Stop) → same_path t [] ≡ false
-    → Decides (cond (is_none (finite.get m p)) None (placing_denied bare t m p empty)) (λ v. (q : Path) → content_at v q ≡ placed bare t (brought empty m p) q) r
-    → Decides (begun_denied t empty m p) (λ v. (q : Path) → content_at v q ≡ begun t empty m p q) r
-begun_named empty m p [] r e h = absurd cc
-begun_named empty m p (n ∷ t) r e h = h
+pub begun_named : (s : Shown) (m : PathMap) (p t : Path) (r : Result PathMap Stop) → same_path t [] ≡ false
+    → Decides (cond (is_none (finite.get m p)) None (placing_denied bare t m p s)) (λ v. (q : Path) → content_at v q ≡ cond (is_none (finite.get m p)) bare (placed bare t (brought s m p)) q) r
+    → Decides (begun_denied t s m p) (λ v. (q : Path) → content_at v q ≡ begun t s m p q) r
+begun_named s m p [] r e h = absurd cc
+begun_named s m p (n ∷ t) r e h = h
 
 is_bare : (r : PathMap) → ((q : Path) → finite.get r q ≡ alone new_dir q) → content_at r ≡ bare
 is_bare r h = same_known (content_at r) bare (λ q. ap (option_map content) (h q))
 
 -- nothing stands there
-none_brought : (empty : Bool) (m : PathMap) (p : Path) → IsTree m → finite.get m p ≡ None → (q : Path) → brought empty m p q ≡ None
-none_brought false m p t h q = ap (option_map content) (nothing_below (finite.get m) t.fronts p h q)
-none_brought true m p t h [] = ap (option_map emptied) h
-none_brought true m p t h (n ∷ q) = refl
+pub nothing_begun : (s : Shown) (m : PathMap) (p t : Path) (d : Option Denial) (r : PathMap) → is_none (finite.get m p) ≡ true → ((q : Path) → finite.get r q ≡ alone new_dir q)
+    → (cond (is_none (finite.get m p)) None d ≡ None) × ((q : Path) → content_at r q ≡ cond (is_none (finite.get m p)) bare (placed bare t (brought s m p)) q)
+nothing_begun s m p t d r n h = (ap (λ b. cond b None d) n, λ q. ap (option_map content) (h q) ∙ ap (λ b. cond b bare (placed bare t (brought s m p)) q) (sym n))
 
-below_bare : (n : Name) (t q : Path) (o : Option Path) (f : Path → Option Content) → rest_after (n ∷ t) q ≡ o → ((r : Path) → f r ≡ None) → bare q ≡ option_map_or f o (bare q)
-below_bare n t q None f e h = refl
-below_bare n t [] (Some r) f e h = absurd cc
-below_bare n t (k ∷ q) (Some r) f e h = sym (h r)
-
-pub nothing_begun : (empty : Bool) (m : PathMap) (p t : Path) (d : Option Denial) (r : PathMap) → IsTree m → same_path t [] ≡ false → is_none (finite.get m p) ≡ true → ((q : Path) → finite.get r q ≡ alone new_dir q)
-    → (cond (is_none (finite.get m p)) None d ≡ None) × ((q : Path) → content_at r q ≡ placed bare t (brought empty m p) q)
-nothing_begun empty m p [] d r i e n h = absurd cc
-nothing_begun empty m p (k ∷ t) d r i e n h = (ap (λ b. cond b None d) n, λ q. ap (option_map content) (h q) ∙ below_bare k t q (rest_after (k ∷ t) q) (brought empty m p) refl (none_brought empty m p i (is_nothing (finite.get m p) n)))
-  where
-    is_nothing : (o : Option Node) → is_none o ≡ true → o ≡ None
-    is_nothing None e = refl
-    is_nothing (Some x) e = absurd cc
-
-pub target_begun : (empty : Bool) (m : PathMap) (p t : Path) (old : PathMap) (r : Result PathMap Stop) → is_none (finite.get m p) ≡ false → ((q : Path) → finite.get old q ≡ alone new_dir q)
-    → Decides (placing_denied (content_at old) t m p empty) (λ v. (q : Path) → content_at v q ≡ placed (content_at old) t (brought empty m p) q) r
-    → Decides (cond (is_none (finite.get m p)) None (placing_denied bare t m p empty)) (λ v. (q : Path) → content_at v q ≡ placed bare t (brought empty m p) q) r
-target_begun empty m p t old r n h d =
-    subst (λ b. Decides (cond b None (placing_denied bare t m p empty)) (λ v. (q : Path) → content_at v q ≡ placed bare t (brought empty m p) q) r) (sym n)
-    (subst (λ k. Decides (placing_denied k t m p empty) (λ v. (q : Path) → content_at v q ≡ placed k t (brought empty m p) q) r) (is_bare old h) d)
+pub target_begun : (s : Shown) (m : PathMap) (p t : Path) (old : PathMap) (r : Result PathMap Stop) → is_none (finite.get m p) ≡ false → ((q : Path) → finite.get old q ≡ alone new_dir q)
+    → Decides (placing_denied (content_at old) t m p s) (λ v. (q : Path) → content_at v q ≡ placed (content_at old) t (brought s m p) q) r
+    → Decides (cond (is_none (finite.get m p)) None (placing_denied bare t m p s)) (λ v. (q : Path) → content_at v q ≡ cond (is_none (finite.get m p)) bare (placed bare t (brought s m p)) q) r
+target_begun s m p t old r n h d =
+    subst (λ b. Decides (cond b None (placing_denied bare t m p s)) (λ v. (q : Path) → content_at v q ≡ cond b bare (placed bare t (brought s m p)) q) r) (sym n)
+    (subst (λ k. Decides (placing_denied k t m p s) (λ v. (q : Path) → content_at v q ≡ placed k t (brought s m p) q) r) (is_bare old h) d)

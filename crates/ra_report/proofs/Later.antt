@@ -10,7 +10,8 @@ use Rattle.repo_core.specs.Repository.{Repository}
 use Rattle.ra_browse.specs.declared.stop.Stop.{Stop}
 use Rattle.ra_browse.specs.Tellings.{Comes, MayStop}
 use Rattle.ra_report.specs.Plans.{IsCopy}
-use Rattle.ra_report.specs.Reports.{Known, Having, having, begin_denied, begin_known, base_in, next, next_denied, later, later_denied, whole, whole_denied, base_of}
+use Rattle.ra_report.specs.Shown.{Known}
+use Rattle.ra_report.specs.Reports.{Having, having, begin_denied, begin_known, base_in, next, next_denied, later, later_denied, whole, whole_denied, base_of}
 use Rattle.ra_report.specs.declared.switched.Switched.{Switched}
 use Rattle.ra_report.specs.declared.plan.WorkingCopy.{WorkingCopy}
 use Rattle.ra_report.proofs.Calls.{only_second, then_comes, first_stops}

@@ -1,6 +1,5 @@
 pub mod Calls
 pub mod Folders
-pub mod Grafts
 pub mod Later
 pub mod Planning
 pub mod Sending
@@ -8,4 +7,5 @@ pub mod Sharing
 pub mod Switching
 pub mod Takes
 pub mod Targets
+pub mod Trims
 pub mod Urls

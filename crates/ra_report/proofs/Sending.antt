@@ -25,10 +25,10 @@ pub with_identity : {W : Type 0} (contents : W → Option (List ℕ)) (p : Plan)
 with_identity contents p identity text out result e t = subst (λ i. IfOk result (λ w. TellsPlan p i edit_alone (contents out) (contents w))) e t
 
 -- what was sent of a plan's facts
-pub told_update : {W : Type 0} (contents : W → Option (List ℕ)) (p : Plan) (identity : List ℕ) (m : PathMap) (k : Facts) (out w : W) → m ≡ p.copy.report → k.target.now ≡ p.wanted.tree → k.number ≡ p.wanted.number → k.base ≡ Some p.copy.base → k.identity.now ≡ identity → k.revisions.now ≡ p.revisions.items → k.tells_root ≡ p.tells_root
+pub told_update : {W : Type 0} (contents : W → Option (List ℕ)) (p : Plan) (identity : List ℕ) (m : PathMap) (k : Facts) (out w : W) → m ≡ p.copy.report → k.target.now ≡ p.wanted.tree → k.number ≡ p.wanted.number → k.base ≡ Some p.copy.base → k.identity.now ≡ identity → k.revisions.now ≡ p.revisions.items → k.tells_root ≡ p.tells_root → k.opens ≡ p.opens
     → IsUpdate contents m k out w → TellsPlan p identity edit_alone (contents out) (contents w)
-told_update contents p identity m k out w a b c d e f h u = record {
+told_update contents p identity m k out w a b c d e f h o u = record {
   edit = record { reported = m; facts = k; changes = u.changes };
-  planned = record { reported_is = a; wanted_is = b; number = c; base = d; identity_is = e; revisions = f; tells_root = h; between = u.between; makes = u.makes };
+  planned = record { reported_is = a; wanted_is = b; number = c; base = d; identity_is = e; revisions = f; tells_root = h; opens = o; between = u.between; makes = u.makes };
   bytes = u.bytes;
 }

@@ -1,5 +1,5 @@
 -- Paths that a report's commands set.
-use Rattle.std.proofs.Common.{◌≡◌, ℕ, Bool, true, false, not, ◌&&◌, List, [], ◌∷◌, ◌++◌, Option, Some, None, is_some, is_none, Result, Ok, Err, refl, sym, ap, subst, ◌∙◌, cond, arith}
+use Rattle.std.proofs.Common.{◌≡◌, ℕ, Bool, true, false, not, List, [], ◌∷◌, ◌++◌, Option, Some, None, is_some, is_none, Result, Ok, Err, refl, sym, ap, subst, ◌∙◌, cond, arith}
 use Rattle.std.specs.Option.{option_map, option_map_or, option_or}
 use Rattle.std.specs.FinMap as finite
 use Rattle.node_base.specs.Limits.{fits}
@@ -11,7 +11,7 @@ use Rattle.node_base.specs.declared.node.Node.{Node}
 use Rattle.path_tree.specs.Copies.{copy_too_long}
 use Rattle.dump_load.specs.Faults.{fault_if}
 use Rattle.tree_reports.specs.Applied.{content}
-use Rattle.tree_reports.specs.Reports.{Answers, brought, content_at, due, placed, report_fault}
+use Rattle.tree_reports.specs.Reports.{Answers, content_at, due, placed}
 use Rattle.tree_reports.specs.declared.error.ReportError.{ReportError}
 use Rattle.tree_reports.specs.declared.error.ReportError.TheVariants as error
 use Rattle.browse_wire.specs.Reports.{Reported, SetPath, DeletePath, LinkPath, report_as}
@@ -27,7 +27,10 @@ use Rattle.ra_browse.specs.declared.stop.Stop.TheVariants as stop
 use Rattle.ra_browse.specs.Answers.{no_revision, url_denied, moved_to}
 use Rattle.ra_browse.specs.Tellings.{Comes, Decides, Denies}
 use Rattle.ra_browse.proofs.Causes.{is_there}
-use Rattle.ra_report.specs.Reports.{Known, Having, having, is_blocked, lying, placing_denied, shallow_denied, source_denied, switched, with_source, next, next_denied, error_stop}
+use Rattle.ra_report.specs.Reports.{Having, having, is_blocked, links_denied, lying, placing_denied, shown_fault, source_denied, switched, with_source, next, next_denied, error_stop}
+use Rattle.ra_report.specs.Shown.{Known, brought, shown_of}
+use Rattle.ra_report.specs.declared.shown.Shown.{Shown}
+use Rattle.ra_report.specs.declared.shown.Shown.TheVariants as shown
 use Rattle.ra_report.specs.declared.switched.Switched.{Switched}
 use Rattle.ra_report.proofs.Calls.{decides_comes, then_comes, then_decides}
 use Rattle.ra_report.proofs.Later.{same_having}
@@ -41,7 +44,7 @@ denial_of error.NotThere = denial.NoPath
 denial_of error.TooLong = denial.Unsupported
 denial_of error.OutOfMemory = denial.Unsupported
 
-blocked_is : (f : Path → Option Node) (p : Path) → is_some (blocked f p) ≡ is_blocked (λ q. option_map content (f q)) p
+pub blocked_is : (f : Path → Option Node) (p : Path) → is_some (blocked f p) ≡ is_blocked (λ q. option_map content (f q)) p
 blocked_is f [] = refl
 blocked_is f (n ∷ p) = by (f []) (blocked_is (λ q. f (n ∷ q)) p)
   where
@@ -58,8 +61,21 @@ faults_denied false b true d None e = ap (λ v. option_or (fault_if v denial.Bad
 faults_denied false b false true None e = ap (λ v. option_or (fault_if v denial.BadReport) (Some denial.Unsupported)) e
 faults_denied false b false false None e = ap (λ v. option_or (fault_if v denial.BadReport) None) e
 
-placing_is : (m : PathMap) (p : Path) (from : PathMap) (source : Path) (empty : Bool) → option_map denial_of (report_fault m p from source empty) ≡ placing_denied (content_at m) p from source empty
-placing_is m p from source empty = faults_denied (same_path p []) (is_blocked (content_at m) p) (is_none (finite.get from source)) (not empty && copy_too_long from source p) (blocked (finite.get m) p) (blocked_is (finite.get m) p)
+no_second : (d : Option Denial) → option_or d None ≡ d
+no_second None = refl
+no_second (Some w) = refl
+
+left_denied : (a b : Bool) (o : Option TreeFault) → is_some o ≡ b → option_map denial_of (option_or (due a error.Root) (option_map (λ _. error.NoFolder) o)) ≡ option_or (fault_if a denial.BadReport) (option_or (fault_if b denial.BadReport) None)
+left_denied true b o e = refl
+left_denied false b (Some f) e = ap (λ v. option_or (fault_if v denial.BadReport) None) e
+left_denied false b None e = ap (λ v. option_or (fault_if v denial.BadReport) None) e
+
+placing_is : (m : PathMap) (p : Path) (from : PathMap) (source : Path) (s : Shown) → option_map denial_of (shown_fault s m p from source) ≡ placing_denied (content_at m) p from source s
+placing_is m p from source shown.Emptied =
+    faults_denied (same_path p []) (is_blocked (content_at m) p) (is_none (finite.get from source)) false (blocked (finite.get m) p) (blocked_is (finite.get m) p)
+    ∙ ap (λ o. option_or (fault_if (same_path p []) denial.BadReport) (option_or (fault_if (is_blocked (content_at m) p) denial.BadReport) o)) (no_second (fault_if (is_none (finite.get from source)) denial.NoPath))
+placing_is m p from source (shown.Within d) = faults_denied (same_path p []) (is_blocked (content_at m) p) (is_none (finite.get from source)) (copy_too_long from source p) (blocked (finite.get m) p) (blocked_is (finite.get m) p)
+placing_is m p from source shown.LeftOut = left_denied (same_path p []) (is_blocked (content_at m) p) (blocked (finite.get m) p) (blocked_is (finite.get m) p)
 
 -- ---- what the call for one came to
 
@@ -82,11 +98,11 @@ error_denies None e a = subst (λ f. Denies None (error_stop f)) (sym a) tt
 error_denies (Some f) e a = subst (λ g. Denies (Some (denial_of f)) (error_stop g)) (error_of e f a) (same_error f)
 
 -- a path was taken
-pub taken_none : (m : PathMap) (p : Path) (from : PathMap) (source : Path) (empty : Bool) (u : Unit {0}) → Answers (report_fault m p from source empty) (Ok u) → placing_denied (content_at m) p from source empty ≡ None
-taken_none m p from source empty u a = sym (placing_is m p from source empty) ∙ ap (option_map denial_of) (none_due (report_fault m p from source empty) u a)
+pub taken_none : (m : PathMap) (p : Path) (from : PathMap) (source : Path) (s : Shown) (u : Unit {0}) → Answers (shown_fault s m p from source) (Ok u) → placing_denied (content_at m) p from source s ≡ None
+taken_none m p from source s u a = sym (placing_is m p from source s) ∙ ap (option_map denial_of) (none_due (shown_fault s m p from source) u a)
 
-pub taken_denies : (m : PathMap) (p : Path) (from : PathMap) (source : Path) (empty : Bool) (e : ReportError) → Answers (report_fault m p from source empty) (Err e) → Denies (placing_denied (content_at m) p from source empty) (error_stop e)
-taken_denies m p from source empty e a = subst (λ o. Denies o (error_stop e)) (placing_is m p from source empty) (error_denies (report_fault m p from source empty) e a)
+pub taken_denies : (m : PathMap) (p : Path) (from : PathMap) (source : Path) (s : Shown) (e : ReportError) → Answers (shown_fault s m p from source) (Err e) → Denies (placing_denied (content_at m) p from source s) (error_stop e)
+taken_denies m p from source s e a = subst (λ o. Denies o (error_stop e)) (placing_is m p from source s) (error_denies (shown_fault s m p from source) e a)
 
 -- a path was deleted
 root_is : (b : Bool) → option_map denial_of (due b error.Root) ≡ fault_if b denial.BadReport
@@ -99,14 +115,19 @@ deleted_none b u a = sym (root_is b) ∙ ap (option_map denial_of) (none_due (du
 pub deleted_denies : (b : Bool) (e : ReportError) → Answers (due b error.Root) (Err e) → Denies (fault_if b denial.BadReport) (error_stop e)
 deleted_denies b e a = subst (λ o. Denies o (error_stop e)) (root_is b) (error_denies (due b error.Root) e a)
 
+pub shown_comes : (old : Known) (p : Path) (tree : PathMap) (source : Path) (s t : Shown) (new : Known) (r : Result (Unit {0}) Stop) → s ≡ t
+    → Decides (placing_denied old p tree source s) (λ _. (q : Path) → new q ≡ placed old p (brought s tree source) q) r
+    → Decides (placing_denied old p tree source t) (λ _. (q : Path) → new q ≡ placed old p (brought t tree source) q) r
+shown_comes old p tree source s t new r e d = subst (λ v. Decides (placing_denied old p tree source v) (λ _. (q : Path) → new q ≡ placed old p (brought v tree source) q) r) e d
+
 -- ---- of a source in a revision
 
 pub source_comes : (x : Repository) (old : Known) (r : Reported) (source : Path) (tree : PathMap) (new : Known) (k m : ℕ) (result : Result (Unit {0}) Stop) → port.no_revision x r.revision ≡ None → tree ≡ tree_of x r.revision
-    → Decides (placing_denied old r.path tree source r.start_empty) (λ _. (q : Path) → new q ≡ placed old r.path (brought r.start_empty tree source) q) result
+    → Decides (placing_denied old r.path tree source (shown_of r)) (λ _. (q : Path) → new q ≡ placed old r.path (brought (shown_of r) tree source) q) result
     → Comes k m (source_denied x old r source) (λ _. (q : Path) → new q ≡ with_source x old r source q) result
 source_comes x old r source tree new k m result h t d =
-    then_decides k m (no_revision x r.revision) (placing_denied old r.path (tree_of x r.revision) source r.start_empty) (λ _. (q : Path) → new q ≡ with_source x old r source q) (λ _. (q : Path) → new q ≡ with_source x old r source q) result (is_there x r.revision h) (λ u i. i)
-    (subst (λ v. Decides (placing_denied old r.path v source r.start_empty) (λ _. (q : Path) → new q ≡ placed old r.path (brought r.start_empty v source) q) result) t d)
+    then_decides k m (no_revision x r.revision) (placing_denied old r.path (tree_of x r.revision) source (shown_of r)) (λ _. (q : Path) → new q ≡ with_source x old r source q) (λ _. (q : Path) → new q ≡ with_source x old r source q) result (is_there x r.revision h) (λ u i. i)
+    (subst (λ v. Decides (placing_denied old r.path v source (shown_of r)) (λ _. (q : Path) → new q ≡ placed old r.path (brought (shown_of r) v source) q) result) t d)
 
 -- ---- of a command
 
@@ -119,26 +140,23 @@ pub known_comes : (new known : Known) (ss : List Switched) (k m : ℕ) (d : Opti
 known_comes new known ss k m d r h = comes_as k m d (λ _. (q : Path) → new q ≡ known q) (λ _. having new ss ≡ having known ss) r (λ u i. same_having new known ss ss i refl) h
 
 -- a path as it stands where it lies
-pub set_comes : (x : Repository) (at : Url) (h : Having) (r : Reported) (source : Path) (new : Known) (k m : ℕ) (result : Result (Unit {0}) Stop) → shallow_denied r.depth ≡ None → fault_if (not (fits (lying at h r.path))) denial.NoPath ≡ None → source ≡ lying at h r.path
+pub set_comes : (x : Repository) (at : Url) (h : Having) (r : Reported) (source : Path) (new : Known) (k m : ℕ) (result : Result (Unit {0}) Stop) → fault_if (not (fits (lying at h r.path))) denial.NoPath ≡ None → source ≡ lying at h r.path
     → Comes k m (source_denied x h.known r source) (λ _. (q : Path) → new q ≡ with_source x h.known r source q) result
     → Comes k m (next_denied x at h (SetPath r)) (λ _. having new h.switches ≡ next x at h (SetPath r)) result
-set_comes x at h r source new k m result all small e is =
+set_comes x at h r source new k m result small e is =
     let place = lying at h r.path in
     let Is : Unit {0} → Type 0 = λ _. having new h.switches ≡ having (with_source x h.known r place) h.switches in
-    then_comes k k m (shallow_denied r.depth) (option_or (fault_if (not (fits place)) denial.NoPath) (source_denied x h.known r place)) Is Is result (omega arith) all (λ u i. i)
-    (
     then_comes k k m (fault_if (not (fits place)) denial.NoPath) (source_denied x h.known r place) Is Is result (omega arith) small (λ u i. i)
     (known_comes new (with_source x h.known r place) h.switches k m (source_denied x h.known r place) result (subst (λ s. Comes k m (source_denied x h.known r s) (λ _. (q : Path) → new q ≡ with_source x h.known r s q) result) e is))
-    )
 
 -- a path as it stands at another URL
-pub link_comes : (x : Repository) (at : Url) (h new : Having) (r : Reported) (url : List ℕ) (source : Path) (k m : ℕ) (result : Result (Unit {0}) Stop) → shallow_denied r.depth ≡ None → url_denied at (url_read url) ≡ None → source ≡ (moved_to at (url_read url)).1
+pub link_comes : (x : Repository) (at : Url) (h new : Having) (r : Reported) (url : List ℕ) (source : Path) (k m : ℕ) (result : Result (Unit {0}) Stop) → links_denied h.switches ≡ None → url_denied at (url_read url) ≡ None → source ≡ (moved_to at (url_read url)).1
     → Comes k m (source_denied x h.known r source) (λ _. new ≡ having (with_source x h.known r source) (h.switches ++ switched r.path source ∷ [])) result
     → Comes k m (next_denied x at h (LinkPath r url)) (λ _. new ≡ next x at h (LinkPath r url)) result
 link_comes x at h new r url source k m result all there e is =
     let place = (moved_to at (url_read url)).1 in
     let Is : Unit {0} → Type 0 = λ _. new ≡ having (with_source x h.known r place) (h.switches ++ switched r.path place ∷ []) in
-    then_comes k k m (shallow_denied r.depth) (option_or (url_denied at (url_read url)) (source_denied x h.known r place)) Is Is result (omega arith) all (λ u i. i)
+    then_comes k k m (links_denied h.switches) (option_or (url_denied at (url_read url)) (source_denied x h.known r place)) Is Is result (omega arith) all (λ u i. i)
     (
     then_comes k k m (url_denied at (url_read url)) (source_denied x h.known r place) Is Is result (omega arith) there (λ u i. i)
     (subst (λ s. Comes k m (source_denied x h.known r s) (λ _. new ≡ having (with_source x h.known r s) (h.switches ++ switched r.path s ∷ [])) result) e is)

@@ -20,15 +20,17 @@ use Rattle.ra_serve.specs.Answers.{asked, refused}
 use Rattle.ra_serve.specs.Ports.{refusal_of, tree_of, IsOwn}
 use Rattle.ra_serve.specs.Sessions.{identity_text}
 use Rattle.tree_reports.specs.Reports.{content_at}
+use Rattle.tree_reports.specs.declared.depth.Depth.{Depth}
 use Rattle.tree_changes.specs.Changes.{AreBetween}
 use Rattle.ra_update.specs.Sent.{calls_told, end_item, Make}
 use Rattle.ra_update.specs.declared.facts.Facts.{Facts}
 use Rattle.ra_browse.specs.declared.denial.Denial.{Denial}
 use Rattle.ra_browse.specs.Denials.{unless_denied}
 use Rattle.ra_browse.specs.Histories.{is_looked_at}
-use Rattle.ra_report.specs.Orders.{order_denied, wanted_denied, wanted_in, revision_of, place_of, target_of, keeps}
-use Rattle.ra_report.specs.Reports.{Having, reports_denied, reported, base_of}
+use Rattle.ra_report.specs.Orders.{order_denied, wanted_denied, wanted_in, revision_of, place_of, target_of, depth_of, keeps}
+use Rattle.ra_report.specs.Reports.{Having, aimed, reports_denied, reported, base_of}
 use Rattle.ra_report.specs.Switches.{kept, switches_denied, with_switches}
+use Rattle.ra_report.specs.Trimmed.{deepens, seen_at, trimmed}
 
 -- what is wanted where a working copy has this: what stands at the place, and what is switched stays so
 abbrev pub wanted_with : Repository → Option ℕ → Path → Path → Bool → Having → Path → Option Node
@@ -60,16 +62,17 @@ calls e = calls_told e.facts (e.reported ∷ []) e.changes
 abbrev pub all_props : Repository → List PropMap
 all_props x = map (λ r. r.props) x.revisions
 
--- of what a working copy reports it makes what is wanted; a target stands alone in its folder, of which nothing is told
-pub record IsEdit (x : Repository) (at : Url) (n : Option ℕ) (place t : Path) (keeps : Bool) (rs : List Report) (e : Edit) : Type 0 where
-  pub reports : (q : Path) → content_at e.reported q ≡ (reported x at t rs).known q
+-- of what a working copy reports it makes so much of what is wanted; a target stands alone in its folder, of which nothing is told
+pub record IsEdit (x : Repository) (at : Url) (n : Option ℕ) (place t : Path) (depth : Option Depth) (keeps : Bool) (rs : List Report) (e : Edit) : Type 0 where
+  pub reports : (q : Path) → content_at e.reported q ≡ seen_at depth t (reported x at t rs).known q
   pub tells_root : e.facts.tells_root ≡ same_path t []
-  pub wants : (q : Path) → finite.get (wanted e) q ≡ wanted_with x n place t keeps (reported x at t rs) q
+  pub opens : e.facts.opens ≡ deepens depth (map (aimed t) rs)
+  pub wants : (q : Path) → finite.get (wanted e) q ≡ trimmed depth t rs (wanted_with x n place t keeps (reported x at t rs)) q
   pub number : e.facts.number ≡ asked x n
   pub base : e.facts.base ≡ base_of rs
   pub identity : e.facts.identity.now ≡ identity_text x
   pub revisions : e.facts.revisions.now ≡ take (suc (asked x n)) (all_props x)
-  pub between : AreBetween e.reported (wanted e) e.changes
+  pub between : AreBetween e.facts.opens e.reported (wanted e) e.changes
   pub makes : Make e.reported (wanted e) (calls e)
 
 abbrev pub edit_alone : Edit → List ℕ
@@ -86,7 +89,7 @@ maybe_told (Some e) = edit_told e
 -- the edit where one is sent, and none where none is
 abbrev pub EditsIf : Bool → Repository → Url → Ask → List Report → Option Edit → Type 0
 EditsIf true x at c rs None = ⊥
-EditsIf true x at c rs (Some e) = IsEdit x at (revision_of c) (place_of at c) (target_of c) (keeps c) rs e
+EditsIf true x at c rs (Some e) = IsEdit x at (revision_of c) (place_of at c) (target_of c) (depth_of c) (keeps c) rs e
 EditsIf false x at c rs o = o ≡ None
 
 -- one is where nothing is denied, and the port refused nothing by itself

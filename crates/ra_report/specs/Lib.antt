@@ -1,8 +1,9 @@
-pub mod Grafts
-pub mod Orders
-pub mod Switches
-pub mod Splits
-pub mod Reports
 pub mod Edits
-pub mod Plans
 pub mod Finishing
+pub mod Orders
+pub mod Plans
+pub mod Reports
+pub mod Shown
+pub mod Splits
+pub mod Switches
+pub mod Trimmed

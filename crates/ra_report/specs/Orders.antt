@@ -1,5 +1,5 @@
 -- What a command that a report follows wants a working copy to become: what stands at a place of a revision.
-use Rattle.std.specs.Prelude.{◌≡◌, ℕ, Bool, true, false, not, ◌&&◌, List, [], ◌∷◌, ◌++◌, Option, Some, None}
+use Rattle.std.specs.Prelude.{◌≡◌, ℕ, Bool, true, false, not, List, [], ◌∷◌, ◌++◌, Option, Some, None}
 use Rattle.std.specs.Option.{option_or}
 use Rattle.std.specs.FinMap as finite
 use Rattle.node_base.specs.Limits.{fits}
@@ -8,9 +8,9 @@ use Rattle.node_base.specs.Tree.{PathMap, alone, grafted, new_dir}
 use Rattle.node_base.specs.declared.node.Node.{Node}
 use Rattle.path_tree.specs.Copies.{copy_too_long}
 use Rattle.dump_load.specs.Faults.{fault_if}
+use Rattle.tree_reports.specs.declared.depth.Depth.{Depth}
 use Rattle.browse_wire.specs.Asks.{Ask, Update, Switch, Status, Diff}
 use Rattle.browse_wire.specs.Urls.{Url, url_read}
-use Rattle.browse_wire.specs.declared.depth.Depth.TheVariants as depth
 use Rattle.browse_wire.specs.declared.depth.DepthWord.{DepthWord}
 use Rattle.browse_wire.specs.declared.depth.DepthWord.TheVariants as said
 use Rattle.repo_core.specs.Repository.{Repository}
@@ -19,6 +19,7 @@ use Rattle.ra_serve.specs.Ports.{tree_of}
 use Rattle.ra_browse.specs.declared.denial.Denial.{Denial}
 use Rattle.ra_browse.specs.declared.denial.Denial.TheVariants as denial
 use Rattle.ra_browse.specs.Answers.{no_revision, dir_denied, url_denied, moved_to}
+use Rattle.ra_report.specs.Shown.{depth_as}
 use Rattle.ra_report.specs.declared.order.Order as declared
 
 -- the commands that a report follows
@@ -29,12 +30,11 @@ awaits_report (Status n p d) = true
 awaits_report (Diff n p url d ignores texts) = true
 awaits_report c = false
 
--- a depth that leaves nothing out
-abbrev pub goes_all : DepthWord → Bool
-goes_all (said.Known depth.Infinity) = true
-goes_all (said.Known d) = false
-goes_all said.AsReported = true
-goes_all said.Excluded = false
+-- how deep a command wants its target; none where it is as reported
+abbrev pub depth_wanted : DepthWord → Option Depth
+depth_wanted (said.Known d) = Some (depth_as d)
+depth_wanted said.AsReported = None
+depth_wanted said.Excluded = None
 
 -- a target is the folder, or one name in it
 abbrev pub is_short : Path → Bool
@@ -42,24 +42,24 @@ is_short [] = true
 is_short (n ∷ []) = true
 is_short (n ∷ m ∷ p) = false
 
--- another target isn't offered, nor a target without all below it
-abbrev pub part_denied : Path → DepthWord → Option Denial
-part_denied p d = fault_if (not (is_short p && goes_all d)) denial.Unsupported
+-- another target isn't offered
+abbrev pub part_denied : Path → Option Denial
+part_denied p = fault_if (not (is_short p)) denial.Unsupported
 
 -- a command without a URL: its target's path passes the limits
-abbrev pub here_denied : Url → Path → DepthWord → Option Denial
-here_denied at p d = option_or (part_denied p d) (fault_if (not (fits (at.1 ++ p))) denial.NoPath)
+abbrev pub here_denied : Url → Path → Option Denial
+here_denied at p = option_or (part_denied p) (fault_if (not (fits (at.1 ++ p))) denial.NoPath)
 
 -- one with a URL: it isn't below the session's root
-abbrev pub there_denied : Url → Path → DepthWord → List ℕ → Option Denial
-there_denied at p d url = option_or (part_denied p d) (url_denied at (url_read url))
+abbrev pub there_denied : Url → Path → List ℕ → Option Denial
+there_denied at p url = option_or (part_denied p) (url_denied at (url_read url))
 
 -- what is denied of a command before its report
 abbrev pub order_denied : Url → Ask → Option Denial
-order_denied at (Update n p d copies ignores) = here_denied at p d
-order_denied at (Switch n p url d copies ignores) = there_denied at p d url
-order_denied at (Status n p d) = here_denied at p d
-order_denied at (Diff n p url d ignores texts) = there_denied at p d url
+order_denied at (Update n p d copies ignores) = here_denied at p
+order_denied at (Switch n p url d copies ignores) = there_denied at p url
+order_denied at (Status n p d) = here_denied at p
+order_denied at (Diff n p url d ignores texts) = there_denied at p url
 order_denied at c = Some denial.Unsupported
 
 -- the revision that is wanted, the newest where none is named
@@ -77,6 +77,14 @@ target_of (Switch n p url d copies ignores) = p
 target_of (Status n p d) = p
 target_of (Diff n p url d ignores texts) = p
 target_of c = []
+
+-- how deep that is looked at
+abbrev pub depth_of : Ask → Option Depth
+depth_of (Update n p d copies ignores) = depth_wanted d
+depth_of (Switch n p url d copies ignores) = depth_wanted d
+depth_of (Status n p d) = depth_wanted d
+depth_of (Diff n p url d ignores texts) = depth_wanted d
+depth_of c = None
 
 -- the place of what is wanted: a URL's, or the target's own
 abbrev pub place_of : Url → Ask → Path
@@ -103,10 +111,10 @@ keeps (Switch n p url d copies ignores) = false
 keeps (Diff n p url d ignores texts) = false
 keeps c = true
 
--- an order of a revision, a place and a target
-abbrev pub Orders : Option ℕ → Path → Path → Bool → declared.Order → Type 0
-Orders n p t b o = (o.revision ≡ n) × (o.path ≡ p) × (o.target ≡ t) × (o.keeps ≡ b)
+-- an order of a revision, a place, a target and a depth
+abbrev pub Orders : Option ℕ → Path → Path → Option Depth → Bool → declared.Order → Type 0
+Orders n p t d b o = (o.revision ≡ n) × (o.path ≡ p) × (o.target ≡ t) × (o.depth ≡ d) × (o.keeps ≡ b)
 
 -- the order that a command is
 abbrev pub IsOrder : Url → Ask → declared.Order → Type 0
-IsOrder at c = Orders (revision_of c) (place_of at c) (target_of c) (keeps c)
+IsOrder at c = Orders (revision_of c) (place_of at c) (target_of c) (depth_of c) (keeps c)

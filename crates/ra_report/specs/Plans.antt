@@ -1,19 +1,22 @@
 -- What an edit is made of, as it is in code.
-use Rattle.std.specs.Prelude.{◌≡◌, ℕ, Bool, suc, take, List, [], Option, Some}
+use Rattle.std.specs.Prelude.{◌≡◌, ℕ, Bool, suc, take, map, List, [], Option, Some}
 use Rattle.std.specs.FinMap as finite
 use Rattle.std.specs.Io.KnownBytes.{Appends}
 use Rattle.node_base.specs.Path.{Path, same_path}
 use Rattle.node_base.specs.declared.node.Node.{Node}
 use Rattle.tree_changes.specs.Changes.{AreBetween}
 use Rattle.tree_reports.specs.Reports.{content_at}
+use Rattle.tree_reports.specs.Sparse.{with_limits}
+use Rattle.tree_reports.specs.declared.depth.Depth.{Depth}
 use Rattle.browse_wire.specs.Reports.{Report}
 use Rattle.browse_wire.specs.Urls.{Url}
 use Rattle.repo_core.specs.Repository.{Repository}
 use Rattle.ra_serve.specs.Answers.{asked}
 use Rattle.ra_update.specs.Sent.{Make}
 use Rattle.ra_serve.specs.Ports.{tree_of}
-use Rattle.ra_report.specs.Reports.{Having, having, reported, base_of}
+use Rattle.ra_report.specs.Reports.{Having, having, aimed, reported, base_of}
 use Rattle.ra_report.specs.Switches.{kept, with_switches}
+use Rattle.ra_report.specs.Trimmed.{deepens, limits_in, seen_at, within_wanted}
 use Rattle.ra_report.specs.declared.switched.Switched.{Switched}
 use Rattle.ra_report.specs.Edits.{Edit, wanted, wanted_with, calls, all_props}
 use Rattle.ra_report.specs.declared.plan.Wanted as declared_wanted
@@ -31,13 +34,33 @@ pub record IsCopy (h : Having) (base : Option ℕ) (c : declared_copy.WorkingCop
   pub has : having (content_at c.report) c.switches.items ≡ h
   pub base_is : Some c.base ≡ base
 
--- both, and what is told beside them
-pub record IsPlan (x : Repository) (at : Url) (n : Option ℕ) (place t : Path) (keeps : Bool) (rs : List Report) (p : declared.Plan) : Type 0 where
+-- both, and what is told beside them, where a working copy has all, and all is wanted
+pub record IsFullPlan (x : Repository) (at : Url) (n : Option ℕ) (place t : Path) (keeps : Bool) (rs : List Report) (p : declared.Plan) : Type 0 where
   pub wants : IsWanted x n (wanted_with x n place t keeps (reported x at t rs)) p.wanted
   pub has : IsCopy (reported x at t rs) (base_of rs) p.copy
   pub tells_root : p.tells_root ≡ same_path t []
   pub identity : p.identity ≡ x.identity
   pub revisions : p.revisions.items ≡ take (suc p.wanted.number) (all_props x)
+
+-- so much of it as a working copy has and a command wants
+pub record IsTrimmedBy (depth : Option Depth) (t : Path) (cs : List Report) (old new : declared.Plan) : Type 0 where
+  pub number : new.wanted.number ≡ old.wanted.number
+  pub wants : (q : Path) → finite.get new.wanted.tree q ≡ within_wanted depth t (with_limits (finite.get old.wanted.tree) (finite.get old.wanted.tree) (limits_in depth cs)) q
+  pub has : (q : Path) → content_at new.copy.report q ≡ seen_at depth t (content_at old.copy.report) q
+  pub base : new.copy.base ≡ old.copy.base
+  pub opens : new.opens ≡ deepens depth cs
+  pub tells_root : new.tells_root ≡ old.tells_root
+  pub identity : new.identity ≡ old.identity
+  pub revisions : new.revisions.items ≡ old.revisions.items
+
+abbrev pub IsTrimmed : Option Depth → Path → List Report → declared.Plan → declared.Plan → Type 0
+IsTrimmed depth t rs = IsTrimmedBy depth t (map (aimed t) rs)
+
+-- so much of a full one
+pub record IsPlan (x : Repository) (at : Url) (n : Option ℕ) (place t : Path) (depth : Option Depth) (keeps : Bool) (rs : List Report) (p : declared.Plan) : Type 0 where
+  pub full : declared.Plan
+  pub planned : IsFullPlan x at n place t keeps rs full
+  pub trimmed : IsTrimmed depth t rs full p
 
 -- what is wanted with what is switched
 pub record AreKept (ss : List Switched) (old new : declared_wanted.Wanted) : Type 0 where
@@ -65,7 +88,8 @@ pub record IsEditOf (p : declared.Plan) (identity : List ℕ) (e : Edit) : Type 
   pub identity_is : e.facts.identity.now ≡ identity
   pub revisions : e.facts.revisions.now ≡ p.revisions.items
   pub tells_root : e.facts.tells_root ≡ p.tells_root
-  pub between : AreBetween e.reported (wanted e) e.changes
+  pub opens : e.facts.opens ≡ p.opens
+  pub between : AreBetween e.facts.opens e.reported (wanted e) e.changes
   pub makes : Make e.reported (wanted e) (calls e)
 
 -- it stands behind what a writer had

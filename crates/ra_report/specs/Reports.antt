@@ -1,20 +1,18 @@
 -- What a working copy reports that it has, command by command. The nodes' numbers don't count.
-use Rattle.std.specs.Prelude.{ℕ, Bool, true, false, not, ◌&&◌, List, [], ◌∷◌, ◌++◌, map, Option, Some, None, is_some, is_none, if◌then◌else◌}
+use Rattle.std.specs.Prelude.{ℕ, Bool, true, false, not, List, [], ◌∷◌, ◌++◌, map, length, nat_lt, Option, Some, None, is_some, is_none, if◌then◌else◌}
 use Rattle.std.specs.Option.{option_map, option_map_or, option_or}
 use Rattle.std.specs.FinMap as finite
 use Rattle.node_base.specs.Limits.{fits}
 use Rattle.node_base.specs.Path.{Path, same_path}
-use Rattle.node_base.specs.Tree.{PathMap, alone, new_dir}
+use Rattle.node_base.specs.Tree.{PathMap}
+use Rattle.node_base.specs.declared.node.Node.{Node}
 use Rattle.path_tree.specs.Copies.{copy_too_long}
 use Rattle.dump_load.specs.Faults.{fault_if}
-use Rattle.tree_reports.specs.Applied.{Content, content}
-use Rattle.tree_reports.specs.Reports.{brought, placed}
+use Rattle.tree_reports.specs.Reports.{brought_within, leave_fault, placed, report_fault}
 use Rattle.tree_reports.specs.declared.error.ReportError.{ReportError}
 use Rattle.tree_reports.specs.declared.error.ReportError.TheVariants as error
 use Rattle.browse_wire.specs.Reports.{Report, Reported, SetPath, DeletePath, LinkPath, FinishReport, AbortReport}
 use Rattle.browse_wire.specs.Urls.{Url, url_read}
-use Rattle.browse_wire.specs.declared.depth.Depth.{Depth}
-use Rattle.browse_wire.specs.declared.depth.Depth.TheVariants as depth
 use Rattle.repo_core.specs.Repository.{Repository}
 use Rattle.ra_serve.specs.Ports.{tree_of}
 use Rattle.ra_browse.specs.declared.denial.Denial.{Denial}
@@ -22,72 +20,72 @@ use Rattle.ra_browse.specs.declared.denial.Denial.TheVariants as denial
 use Rattle.ra_browse.specs.declared.stop.Stop.{Stop}
 use Rattle.ra_browse.specs.declared.stop.Stop.TheVariants as stop
 use Rattle.ra_browse.specs.Answers.{no_revision, dir_denied, url_denied, moved_to}
+use Rattle.ra_report.specs.Shown.{Known, bare, brought, shown_of}
 use Rattle.ra_report.specs.Switches.{lies}
+use Rattle.ra_report.specs.declared.shown.Shown.{Shown}
+use Rattle.ra_report.specs.declared.shown.Shown.TheVariants as shown
 use Rattle.ra_report.specs.declared.switched.Switched.{Switched}
 
--- what is known at each path
-abbrev pub Known : Type 0
-Known = Path → Option Content
-
 -- ---- one path
-
-abbrev pub is_all : Depth → Bool
-is_all depth.Infinity = true
-is_all depth.Empty = false
-is_all depth.Files = false
-is_all depth.Immediates = false
-
--- a path is reported with all below it
-abbrev pub shallow_denied : Depth → Option Denial
-shallow_denied d = fault_if (not (is_all d)) denial.Unsupported
 
 -- something above a path is no directory
 abbrev pub is_blocked : Known → Path → Bool
 is_blocked k [] = false
 is_blocked k (n ∷ p) = option_map_or (λ c. if is_some c.text then true else is_blocked (λ q. k (n ∷ q)) p) (k []) true
 
--- a path isn't taken: it is the folder, or something above it is no directory; nothing is at its source; paths there would pass the limits
-abbrev pub placing_denied : Known → Path → PathMap → Path → Bool → Option Denial
-placing_denied k p from source empty =
+-- of a path that isn't left out: nothing is at its source; or paths there would pass the limits
+abbrev pub source_fault : Shown → PathMap → Path → Path → Option Denial
+source_fault shown.Emptied from source p = fault_if (is_none (finite.get from source)) denial.NoPath
+source_fault (shown.Within d) from source p = option_or (fault_if (is_none (finite.get from source)) denial.NoPath) (fault_if (copy_too_long from source p) denial.Unsupported)
+source_fault shown.LeftOut from source p = None
+
+-- a path isn't taken: it is the folder, or something above it is no directory; or its source is at fault
+abbrev pub placing_denied : Known → Path → PathMap → Path → Shown → Option Denial
+placing_denied k p from source s =
     option_or (fault_if (same_path p []) denial.BadReport)
-    (option_or (fault_if (is_blocked k p) denial.BadReport)
-    (option_or (fault_if (is_none (finite.get from source)) denial.NoPath) (fault_if (not empty && copy_too_long from source p) denial.Unsupported)))
+    (option_or (fault_if (is_blocked k p) denial.BadReport) (source_fault s from source p))
 
 -- the same of a source in a revision
 abbrev pub source_denied : Repository → Known → Reported → Path → Option Denial
-source_denied x k r source = option_or (no_revision x r.revision) (placing_denied k r.path (tree_of x r.revision) source r.start_empty)
+source_denied x k r source = option_or (no_revision x r.revision) (placing_denied k r.path (tree_of x r.revision) source (shown_of r))
 
 -- what stands at a source of a revision stands at a path, and the rest is as before
 abbrev pub with_source : Repository → Known → Reported → Path → Known
-with_source x k r source = placed k r.path (brought r.start_empty (tree_of x r.revision) source)
+with_source x k r source = placed k r.path (brought (shown_of r) (tree_of x r.revision) source)
 
 -- ---- the folder or the target, which is reported first
 
--- a directory alone
-abbrev pub bare : Known
-bare q = option_map content (alone new_dir q)
+-- the folder is a directory, unless it begins empty
+abbrev pub folder_denied : Shown → Option Node → Option Denial
+folder_denied shown.Emptied o = None
+folder_denied (shown.Within d) o = dir_denied o
+folder_denied shown.LeftOut o = None
 
--- the folder is a directory, unless it begins empty; where a target is, or nothing, it may begin
-abbrev pub begun_denied : Path → Bool → PathMap → Path → Option Denial
-begun_denied [] empty m source = if empty then None else dir_denied (finite.get m source)
-begun_denied (n ∷ t) empty m source = if is_none (finite.get m source) then None else placing_denied bare (n ∷ t) m source empty
+-- where a target is, or nothing, it may begin
+abbrev pub begun_denied : Path → Shown → PathMap → Path → Option Denial
+begun_denied [] s m source = folder_denied s (finite.get m source)
+begun_denied (n ∷ t) s m source = if is_none (finite.get m source) then None else placing_denied bare (n ∷ t) m source s
 
 abbrev pub begin_denied : Repository → Url → Path → Report → Option Denial
 begin_denied x at t (SetPath r) =
     option_or (fault_if (not (same_path r.path t)) denial.BadReport)
-    (option_or (shallow_denied r.depth)
     (option_or (fault_if (not (fits (at.1 ++ t))) denial.NoPath)
-    (option_or (no_revision x r.revision) (begun_denied t r.start_empty (tree_of x r.revision) (at.1 ++ t)))))
+    (option_or (no_revision x r.revision) (begun_denied t (shown_of r) (tree_of x r.revision) (at.1 ++ t))))
 begin_denied x at t c = Some denial.BadReport
 
--- the folder as it stands there, or a directory alone; a target stands alone in one, with nothing where nothing stands there
-abbrev pub begun : Path → Bool → PathMap → Path → Known
-begun [] true m source = bare
-begun [] false m source = brought false m source
-begun (n ∷ t) empty m source = placed bare (n ∷ t) (brought empty m source)
+-- so much of the folder as it stands there, or a directory alone
+abbrev pub folder_begun : Shown → PathMap → Path → Known
+folder_begun shown.Emptied m source = bare
+folder_begun (shown.Within d) m source = brought_within d m source
+folder_begun shown.LeftOut m source = bare
+
+-- a target stands alone in a directory, with nothing where nothing stands there
+abbrev pub begun : Path → Shown → PathMap → Path → Known
+begun [] s m source = folder_begun s m source
+begun (n ∷ t) s m source = if is_none (finite.get m source) then bare else placed bare (n ∷ t) (brought s m source)
 
 abbrev pub begin_known : Repository → Url → Path → Report → Known
-begin_known x at t (SetPath r) = begun t r.start_empty (tree_of x r.revision) (at.1 ++ t)
+begin_known x at t (SetPath r) = begun t (shown_of r) (tree_of x r.revision) (at.1 ++ t)
 begin_known x at t c = λ _. None
 
 -- the revision that it is known at
@@ -109,9 +107,13 @@ having k ss = record { known = k; switches = ss }
 abbrev pub lying : Url → Having → Path → Path
 lying at h p = lies p (at.1 ++ p) h.switches
 
+-- no more paths may be switched than 1,024
+abbrev pub links_denied : List Switched → Option Denial
+links_denied ss = fault_if (not (nat_lt (length ss) 1024)) denial.Unsupported
+
 abbrev pub next_denied : Repository → Url → Having → Report → Option Denial
-next_denied x at h (SetPath r) = option_or (shallow_denied r.depth) (option_or (fault_if (not (fits (lying at h r.path))) denial.NoPath) (source_denied x h.known r (lying at h r.path)))
-next_denied x at h (LinkPath r url) = option_or (shallow_denied r.depth) (option_or (url_denied at (url_read url)) (source_denied x h.known r (moved_to at (url_read url)).1))
+next_denied x at h (SetPath r) = option_or (fault_if (not (fits (lying at h r.path))) denial.NoPath) (source_denied x h.known r (lying at h r.path))
+next_denied x at h (LinkPath r url) = option_or (links_denied h.switches) (option_or (url_denied at (url_read url)) (source_denied x h.known r (moved_to at (url_read url)).1))
 next_denied x at h (DeletePath p) = fault_if (same_path p []) denial.BadReport
 next_denied x at h FinishReport = Some denial.BadReport
 next_denied x at h AbortReport = Some denial.BadReport
@@ -183,6 +185,13 @@ reported x at t cs = whole x at t (map (aimed t) cs)
 abbrev pub base_of : List Report → Option ℕ
 base_of [] = None
 base_of (c ∷ cs) = base_in c
+
+-- ---- as a report's calls answer it
+
+abbrev pub shown_fault : Shown → PathMap → Path → PathMap → Path → Option ReportError
+shown_fault shown.Emptied m p from source = report_fault m p from source true
+shown_fault (shown.Within d) m p from source = report_fault m p from source false
+shown_fault shown.LeftOut m p from source = leave_fault m p
 
 -- ---- as errors of a report are told
 

@@ -6,13 +6,13 @@ ghost use Rattle.dump_load.specs.Faults.{fault_if};
 ghost use Rattle.node_base.specs.Path.{Path, same_path};
 ghost use Rattle.node_base.specs.Tree.{alone, grafted, new_dir};
 ghost use Rattle.path_tree.specs.Copies.{copy_too_long};
+ghost use Rattle.tree_reports.specs.Depths.{within};
 ghost use Rattle.ra_browse.specs.Answers.{dir_denied};
 ghost use Rattle.ra_browse.specs.Tellings.{Decides, Finds, PortStays};
 ghost use Rattle.ra_browse.specs.declared.denial.Denial.TheVariants.{Unsupported};
 ghost use Rattle.ra_report.specs.Orders.{is_short, place_denied, wanted_denied, wanted_in};
 ghost use Rattle.ra_report.specs.Plans.{IsWanted};
 
-use crate::graft::put_copy;
 use crate::order::is_short;
 use crate::plan::Wanted;
 use node_base::{NodePath, RevNo};
@@ -20,7 +20,7 @@ use path_tree::Tree;
 use ra_browse::{Denial, Stop, stopped, tree_asked};
 use ra_serve::RepoPort;
 use std::alloc::{AllocError, Global};
-use tree_reports::subtree;
+use tree_reports::{Depth, limited, put_copy, subtree};
 
 /// What stands at a place of a revision, the newest where none is named: the folder, or what stands at the target's name.
 pub fn look_up<P: RepoPort>(
@@ -110,8 +110,8 @@ fn alone_in(
     Ok(top)
 }
 
-/// A folder of a tree as a tree of its own.
-pub fn tree_at(alloc: Global, tree: &Tree, folder: &NodePath) -> Result<Tree, Stop>
+// A folder of a tree as a tree of its own.
+fn tree_at(alloc: Global, tree: &Tree, folder: &NodePath) -> Result<Tree, Stop>
     ensures { Decides (dir_denied (finite.get tree.now folder.now))
         (λ t. (q : Path) → finite.get t q ≡ finite.get tree.now (folder.now ++ q)) result }
 {
@@ -119,6 +119,25 @@ pub fn tree_at(alloc: Global, tree: &Tree, folder: &NodePath) -> Result<Tree, St
         return Err(Stop::Denied(why));
     }
     match subtree(alloc, tree, folder) {
+        Ok(tree) => Ok(tree),
+        Err(_) => Err(Stop::OutOfMemory),
+    }
+}
+
+/// The same, looked at so deep.
+pub fn tree_within(
+    alloc: Global,
+    tree: &Tree,
+    folder: &NodePath,
+    depth: Depth,
+) -> Result<Tree, Stop>
+    ensures { Decides (dir_denied (finite.get tree.now folder.now))
+        (λ t. (q : Path) → finite.get t q ≡ within depth (λ r. finite.get tree.now (folder.now ++ r)) q) result }
+{
+    if let Some(why) = dir_denied(tree, folder) {
+        return Err(Stop::Denied(why));
+    }
+    match limited(alloc, tree, folder, depth) {
         Ok(tree) => Ok(tree),
         Err(_) => Err(Stop::OutOfMemory),
     }

@@ -7,12 +7,12 @@ ghost use Rattle.ra_browse.specs.Tellings.{Decides};
 ghost use Rattle.ra_report.specs.Plans.{AreKept};
 ghost use Rattle.ra_report.specs.Switches.{kept, switch_denied, switches_denied, with_switch, with_switches};
 
-use crate::graft::put_copy;
 use crate::plan::Wanted;
 use crate::switched::Switched;
 use path_tree::Tree;
 use ra_browse::{Denial, Stop};
 use std::alloc::Global;
+use tree_reports::put_copy;
 
 /// What is wanted with what stands at the places of switched paths.
 pub fn follow(alloc: Global, wanted: Wanted, switches: &[Switched]) -> Result<Wanted, Stop>

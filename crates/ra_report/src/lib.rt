@@ -5,7 +5,7 @@
 //! tells why there is none.
 //!
 //! `specs/Orders` has what a command wants, `specs/Reports` what a report says, `specs/Switches` what is wanted where something
-//! is switched, and `specs/Edits` what a report is answered.
+//! is switched, `specs/Trimmed` what is where a working copy doesn't have all, and `specs/Edits` what a report is answered.
 #![tactic(auto)]
 
 pub use answer::finish;
@@ -15,11 +15,12 @@ mod aim;
 mod answer;
 mod folder;
 mod follow;
-mod graft;
 mod order;
 mod plan;
 mod report;
 mod revisions;
 mod send;
+mod shown;
 mod switched;
 mod take;
+mod trim;

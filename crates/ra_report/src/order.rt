@@ -6,16 +6,18 @@ ghost use Rattle.browse_wire.specs.Depths.{word_of};
 ghost use Rattle.browse_wire.specs.Urls.{url_read};
 ghost use Rattle.ra_browse.specs.Answers.{url_denied, moved_to};
 ghost use Rattle.ra_browse.specs.Tellings.{place_as, url_stop, Decides};
-ghost use Rattle.ra_report.specs.Orders.{awaits_report, goes_all, here_denied, is_short, part_denied, there_denied};
+ghost use Rattle.ra_report.specs.Orders.{awaits_report, depth_wanted, here_denied, is_short, part_denied, there_denied};
 ghost use Rattle.ra_report.specs.Orders.{order_denied, IsOrder, Orders};
 
+use crate::shown::depth_of;
 use crate::take::path_in;
 use browse_wire::ask::BrowseCommand;
-use browse_wire::depth::Depth;
+use browse_wire::depth::Depth as Below;
 use browse_wire::url::{SessionUrl, UrlFault};
 use node_base::NodePath;
 use ra_browse::{Denial, Stop};
 use std::alloc::Global;
+use tree_reports::Depth;
 
 /// What is wanted: what stands at a path from the repository's root, in a revision, or in the newest where none is named.
 /// A target is its name in the folder that a working copy has, and the root where it is that folder.
@@ -24,6 +26,8 @@ pub struct Order {
     pub revision: Option<u64>,
     pub path: NodePath,
     pub target: NodePath,
+    /// How deep the target is looked at; as deep as it is reported where none is named.
+    pub depth: Option<Depth>,
     /// Whether what is switched stays so.
     pub keeps: bool,
 }
@@ -42,7 +46,7 @@ pub fn awaits_report(command: &BrowseCommand) -> bool
 }
 
 /// Why no report follows a command: it isn't one that a report follows, or it wants a part of the folder that isn't one
-/// name with all below it, or what stands at a URL that isn't below the session's root, or at a path past the limits. No
+/// name, or what stands at a URL that isn't below the session's root, or at a path past the limits. No
 /// repository is asked.
 pub fn ordered(alloc: Global, place: &SessionUrl, command: &BrowseCommand) -> Result<(), Stop>
     ensures { Decides (order_denied (place_as place.now) (ask_as command.now)) (λ _. Unit {0}) result }
@@ -90,17 +94,17 @@ fn here(
     alloc: Global,
     place: &SessionUrl,
     target: &NodePath,
-    depth: Option<Depth>,
+    depth: Option<Below>,
     revision: Option<u64>,
 ) -> Result<Order, Stop>
-    ensures { Decides (here_denied (place_as place.now) target.now (word_of depth))
-        (Orders revision (place.now.path ++ target.now) target.now true) result }
+    ensures { Decides (here_denied (place_as place.now) target.now)
+        (Orders revision (place.now.path ++ target.now) target.now (depth_wanted (word_of depth)) true) result }
 {
-    if let Some(why) = part_denied(target, depth) {
+    if let Some(why) = part_denied(target) {
         return Err(Stop::Denied(why));
     }
     match path_in(alloc, &place.path, target) {
-        Ok(path) => order_at(alloc, revision, path, target, true),
+        Ok(path) => order_at(alloc, revision, path, target, depth, true),
         Err(stop) => Err(stop),
     }
 }
@@ -111,15 +115,17 @@ fn order_at(
     revision: Option<u64>,
     path: NodePath,
     target: &NodePath,
+    depth: Option<Below>,
     keeps: bool,
 ) -> Result<Order, Stop>
-    ensures { Decides None (Orders revision path target.now keeps) result }
+    ensures { Decides None (Orders revision path target.now (depth_wanted (word_of depth)) keeps) result }
 {
     match target.copy(alloc) {
         Ok(target) => Ok(Order {
             revision,
             path,
             target,
+            depth: depth_wanted(depth),
             keeps,
         }),
         Err(_) => Err(Stop::OutOfMemory),
@@ -131,27 +137,27 @@ fn there(
     alloc: Global,
     place: &SessionUrl,
     target: &NodePath,
-    depth: Option<Depth>,
+    depth: Option<Below>,
     url: &[u8],
     revision: Option<u64>,
 ) -> Result<Order, Stop>
-    ensures { Decides (there_denied (place_as place.now) target.now (word_of depth) url.now)
-        (Orders revision (moved_to (place_as place.now) (url_read url.now)).1 target.now false) result }
+    ensures { Decides (there_denied (place_as place.now) target.now url.now)
+        (Orders revision (moved_to (place_as place.now) (url_read url.now)).1 target.now (depth_wanted (word_of depth)) false) result }
 {
-    if let Some(why) = part_denied(target, depth) {
+    if let Some(why) = part_denied(target) {
         return Err(Stop::Denied(why));
     }
     match path_at(alloc, place, url) {
-        Ok(path) => order_at(alloc, revision, path, target, false),
+        Ok(path) => order_at(alloc, revision, path, target, depth, false),
         Err(stop) => Err(stop),
     }
 }
 
 // Whether a part of a folder is wanted that isn't offered.
-fn part_denied(target: &NodePath, depth: Option<Depth>) -> Option<Denial>
-    ensures { result ≡ part_denied target.now (word_of depth) }
+fn part_denied(target: &NodePath) -> Option<Denial>
+    ensures { result ≡ part_denied target.now }
 {
-    if is_short(target) && goes_all(depth) {
+    if is_short(target) {
         return None;
     }
     Some(Denial::Unsupported)
@@ -168,16 +174,13 @@ pub fn is_short(target: &NodePath) -> bool
     }
 }
 
-// Whether a depth leaves nothing out.
-fn goes_all(depth: Option<Depth>) -> bool
-    ensures { result ≡ goes_all (word_of depth) }
+// The depth of a command as one of trees.
+fn depth_wanted(depth: Option<Below>) -> Option<Depth>
+    ensures { result ≡ depth_wanted (word_of depth) }
 {
     match depth {
-        None => true,
-        Some(Depth::Infinity) => true,
-        Some(Depth::Empty) => false,
-        Some(Depth::Files) => false,
-        Some(Depth::Immediates) => false,
+        Some(depth) => Some(depth_of(depth)),
+        None => None,
     }
 }
 

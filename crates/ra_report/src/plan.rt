@@ -8,8 +8,8 @@ ghost use Rattle.node_base.specs.Path.{same_path};
 ghost use Rattle.ra_browse.specs.Answers.{no_revision};
 ghost use Rattle.ra_browse.specs.Tellings.{place_as, Finds, PortStays};
 ghost use Rattle.ra_report.specs.Edits.{edit_denied, report_denied};
-ghost use Rattle.ra_report.specs.Orders.{keeps, revision_of, place_of, target_of};
-ghost use Rattle.ra_report.specs.Plans.{IsPlan, IsPlanOf, IsPlanned};
+ghost use Rattle.ra_report.specs.Plans.{IsFullPlan, IsPlan, IsPlanOf, IsPlanned};
+ghost use Rattle.ra_report.specs.Orders.{depth_of, keeps, revision_of, place_of, target_of};
 ghost use Rattle.ra_report.specs.Reports.{having, reports_denied, reported, base_of};
 ghost use Rattle.ra_report.specs.Switches.{kept, switches_denied};
 ghost use Rattle.std.specs.FinMap as finite;
@@ -21,6 +21,7 @@ use crate::order::{Order, order_of};
 use crate::report::working_copy;
 use crate::revisions::props_up_to;
 use crate::switched::Switched;
+use crate::trim::trimmed;
 use browse_wire::ask::BrowseCommand;
 use browse_wire::report::ReportCommand;
 use browse_wire::url::SessionUrl;
@@ -59,6 +60,8 @@ pub struct Plan {
     pub revisions: Vec<Props>,
     /// Whether something is told of the folder itself.
     pub tells_root: bool,
+    /// Whether folders in which nothing differs are opened too.
+    pub opens: bool,
 }
 
 /// The plan of a command and its report.
@@ -72,17 +75,38 @@ pub fn plan_of<P: RepoPort>(
     ensures found { Finds P.repository P.refusals
         (λ x. report_denied x (place_as place.now) (ask_as command.now) (map report_as report.now))
         (λ x p. IsPlan x (place_as place.now) (revision_of (ask_as command.now))
-        (place_of (place_as place.now) (ask_as command.now)) (target_of (ask_as command.now)) (keeps (ask_as command.now))
-        (map report_as report.now) p) port.old port.new result }
+        (place_of (place_as place.now) (ask_as command.now)) (target_of (ask_as command.now)) (depth_of (ask_as command.now))
+        (keeps (ask_as command.now)) (map report_as report.now) p) port.old port.new result }
     ensures stays { PortStays P.repository P.refusals P.is_mirror port.old port.new }
 {
     match order_of(alloc, place, command) {
-        Ok(order) => plan_for(alloc, port, place, &order, report),
+        Ok(order) => plan_by(alloc, port, place, &order, report),
         Err(stop) => Err(stop),
     }
 }
 
 // The same of an order.
+fn plan_by<P: RepoPort>(
+    alloc: Global,
+    port: &mut P,
+    place: &SessionUrl,
+    order: &Order,
+    report: &[ReportCommand],
+) -> Result<Plan, Stop>
+    ensures found { Finds P.repository P.refusals
+        (λ x. edit_denied x (place_as place.now) order.now.revision order.now.path order.now.target order.now.keeps
+        (map report_as report.now))
+        (λ x p. IsPlan x (place_as place.now) order.now.revision order.now.path order.now.target order.now.depth order.now.keeps
+        (map report_as report.now) p) port.old port.new result }
+    ensures stays { PortStays P.repository P.refusals P.is_mirror port.old port.new }
+{
+    match plan_for(alloc, port, place, order, report) {
+        Ok(plan) => trimmed(alloc, plan, &order.target, order.depth, report),
+        Err(stop) => Err(stop),
+    }
+}
+
+// The same where a working copy has all, and all is wanted.
 fn plan_for<P: RepoPort>(
     alloc: Global,
     port: &mut P,
@@ -93,7 +117,7 @@ fn plan_for<P: RepoPort>(
     ensures found { Finds P.repository P.refusals
         (λ x. edit_denied x (place_as place.now) order.now.revision order.now.path order.now.target order.now.keeps
         (map report_as report.now))
-        (λ x p. IsPlan x (place_as place.now) order.now.revision order.now.path order.now.target order.now.keeps
+        (λ x p. IsFullPlan x (place_as place.now) order.now.revision order.now.path order.now.target order.now.keeps
         (map report_as report.now) p) port.old port.new result }
     ensures stays { PortStays P.repository P.refusals P.is_mirror port.old port.new }
 {
@@ -168,6 +192,7 @@ fn planned<P: RepoPort>(
             identity,
             revisions,
             tells_root,
+            opens: false,
         }),
         Err(stop) => Err(stop),
     }

@@ -1,12 +1,12 @@
 //! What a working copy reports.
 
-ghost use Rattle.std.specs.Prelude.{◌≡◌, [], map, Some, None, false, is_none, if◌then◌else◌};
+ghost use Rattle.std.specs.Prelude.{◌≡◌, [], map, Some, None, is_none, if◌then◌else◌};
 ghost use Rattle.std.specs.Option.{option_or};
 ghost use Rattle.dump_load.specs.Faults.{fault_if};
 ghost use Rattle.node_base.specs.Limits.{fits};
 ghost use Rattle.std.specs.Prelude.{◌++◌, not};
-ghost use Rattle.node_base.specs.Path.{Path, same_path};
-ghost use Rattle.tree_reports.specs.Reports.{brought, content_at, placed};
+ghost use Rattle.node_base.specs.Path.{Path};
+ghost use Rattle.tree_reports.specs.Reports.{brought_within, content_at, placed};
 ghost use Rattle.browse_wire.specs.Reports.{report_as, reported_as, SetPath};
 ghost use Rattle.ra_serve.specs.Ports.{tree_of};
 ghost use Rattle.ra_browse.specs.Answers.{dir_denied, no_revision};
@@ -14,14 +14,16 @@ ghost use Rattle.ra_browse.specs.Tellings.{place_as, Decides, Finds, PortStays};
 ghost use Rattle.ra_browse.specs.declared.denial.Denial.TheVariants.{NoPath};
 ghost use Rattle.std.specs.FinMap as finite;
 ghost use Rattle.ra_report.specs.Plans.{IsCopy};
-ghost use Rattle.ra_report.specs.Reports.{bare, begin_denied, begin_known, begun, begun_denied, base_in, base_of, placing_denied};
+ghost use Rattle.ra_report.specs.Reports.{begin_denied, begin_known, begun, begun_denied, base_in, base_of, folder_denied, placing_denied};
+ghost use Rattle.ra_report.specs.Shown.{bare, brought};
 ghost use Rattle.ra_report.specs.Reports.{having, later, later_denied, reports_denied, reported, whole, whole_denied};
 
 use crate::aim::aimed_all;
-use crate::folder::tree_at;
+use crate::folder::tree_within;
 use crate::plan::WorkingCopy;
+use crate::shown::{Shown, shown_of};
 use crate::switched::Switched;
-use crate::take::{bring_from, path_in, shallow_denied, take};
+use crate::take::{bring_from, path_in, take};
 use browse_wire::report::{ReportCommand, Reported};
 use browse_wire::url::SessionUrl;
 use node_base::{NodePath, RevNo};
@@ -29,7 +31,7 @@ use path_tree::Tree;
 use ra_browse::{Denial, Stop, stopped, tree_asked};
 use ra_serve::RepoPort;
 use std::alloc::Global;
-use tree_reports::Report;
+use tree_reports::{Depth, Report};
 
 /// What is reported, of the folder or of a target in it.
 pub fn working_copy<P: RepoPort>(
@@ -110,17 +112,8 @@ fn begun_by<P: RepoPort>(
     if !path.path.compare(target).is_eq() {
         return Err(Stop::Denied(Denial::BadReport));
     }
-    if let Some(why) = shallow_denied(path.depth) {
-        return Err(Stop::Denied(why));
-    }
-    begun_here(
-        alloc,
-        port,
-        &place.path,
-        target,
-        path.revision,
-        path.start_empty,
-    )
+    let shown = shown_of(path);
+    begun_here(alloc, port, &place.path, target, path.revision, shown)
 }
 
 // The same where the session stands.
@@ -130,16 +123,16 @@ fn begun_here<P: RepoPort>(
     here: &NodePath,
     target: &NodePath,
     revision: u64,
-    empty: bool,
+    shown: Shown,
 ) -> Result<WorkingCopy, Stop>
     ensures found { Finds P.repository P.refusals (λ x. option_or (fault_if (not (fits (here.now ++ target.now))) NoPath)
-        (option_or (no_revision x revision) (begun_denied target.now empty (tree_of x revision) (here.now ++ target.now))))
-        (λ x c. IsCopy (having (begun target.now empty (tree_of x revision) (here.now ++ target.now)) []) (Some revision) c)
+        (option_or (no_revision x revision) (begun_denied target.now shown (tree_of x revision) (here.now ++ target.now))))
+        (λ x c. IsCopy (having (begun target.now shown (tree_of x revision) (here.now ++ target.now)) []) (Some revision) c)
         port.old port.new result }
     ensures stays { PortStays P.repository P.refusals P.is_mirror port.old port.new }
 {
     match path_in(alloc, here, target) {
-        Ok(source) => begun_at(alloc, port, &source, target, revision, empty),
+        Ok(source) => begun_at(alloc, port, &source, target, revision, shown),
         Err(stop) => Err(stop),
     }
 }
@@ -151,16 +144,16 @@ fn begun_at<P: RepoPort>(
     source: &NodePath,
     target: &NodePath,
     revision: u64,
-    empty: bool,
+    shown: Shown,
 ) -> Result<WorkingCopy, Stop>
     ensures found { Finds P.repository P.refusals (λ x. option_or (no_revision x revision)
-        (begun_denied target.now empty (tree_of x revision) source.now))
-        (λ x c. IsCopy (having (begun target.now empty (tree_of x revision) source.now) []) (Some revision) c)
+        (begun_denied target.now shown (tree_of x revision) source.now))
+        (λ x c. IsCopy (having (begun target.now shown (tree_of x revision) source.now) []) (Some revision) c)
         port.old port.new result }
     ensures stays { PortStays P.repository P.refusals P.is_mirror port.old port.new }
 {
     match tree_asked(port, Some(revision)) {
-        Ok((base, tree)) => begun_with(alloc, base, &tree, source, target, empty),
+        Ok((base, tree)) => begun_with(alloc, base, &tree, source, target, shown),
         Err(fault) => Err(stopped(fault)),
     }
 }
@@ -172,13 +165,13 @@ fn begun_with(
     tree: &Tree,
     source: &NodePath,
     target: &NodePath,
-    empty: bool,
+    shown: Shown,
 ) -> Result<WorkingCopy, Stop>
-    ensures { Decides (begun_denied target.now empty tree.now source.now)
+    ensures { Decides (begun_denied target.now shown tree.now source.now)
         (λ c. (c.base ≡ base) × (c.switches.items ≡ [])
-        × ((q : Path) → content_at c.report q ≡ begun target.now empty tree.now source.now q)) result }
+        × ((q : Path) → content_at c.report q ≡ begun target.now shown tree.now source.now q)) result }
 {
-    match begun_in(alloc, tree, source, target, empty) {
+    match begun_in(alloc, tree, source, target, shown) {
         Ok(report) => Ok(WorkingCopy {
             report,
             switches: Vec::new(alloc),
@@ -194,31 +187,57 @@ fn begun_in(
     tree: &Tree,
     source: &NodePath,
     target: &NodePath,
-    empty: bool,
+    shown: Shown,
 ) -> Result<Report, Stop>
-    ensures { Decides (begun_denied target.now empty tree.now source.now)
-        (λ r. (q : Path) → content_at r q ≡ begun target.now empty tree.now source.now q) result }
+    ensures { Decides (begun_denied target.now shown tree.now source.now)
+        (λ r. (q : Path) → content_at r q ≡ begun target.now shown tree.now source.now q) result }
 {
     if target.is_root() {
-        return folder_begun(alloc, tree, source, empty);
+        return folder_begun(alloc, tree, source, shown);
     }
-    target_begun(alloc, tree, source, target, empty)
+    target_begun(alloc, tree, source, target, shown)
 }
 
-// A folder of a tree, or one without what is in it.
-fn folder_begun(alloc: Global, tree: &Tree, folder: &NodePath, empty: bool) -> Result<Report, Stop>
-    ensures { Decides (if empty then None else dir_denied (finite.get tree.now folder.now))
-        (λ r. (q : Path) → content_at r q ≡ begun [] empty tree.now folder.now q) result }
+// So much of a folder of a tree, or one without what is in it.
+fn folder_begun(
+    alloc: Global,
+    tree: &Tree,
+    folder: &NodePath,
+    shown: Shown,
+) -> Result<Report, Stop>
+    ensures { Decides (folder_denied shown (finite.get tree.now folder.now))
+        (λ r. (q : Path) → content_at r q ≡ begun [] shown tree.now folder.now q) result }
 {
-    if empty {
-        return match Report::begin_empty(alloc) {
-            Ok(report) => Ok(report),
-            Err(_) => Err(Stop::OutOfMemory),
-        };
+    match shown {
+        Shown::Within(depth) => folder_within(alloc, tree, folder, depth),
+        Shown::Emptied => bare_folder(alloc),
+        Shown::LeftOut => bare_folder(alloc),
     }
-    match tree_at(alloc, tree, folder) {
+}
+
+// A folder of a tree, looked at so deep.
+fn folder_within(
+    alloc: Global,
+    tree: &Tree,
+    folder: &NodePath,
+    depth: Depth,
+) -> Result<Report, Stop>
+    ensures { Decides (dir_denied (finite.get tree.now folder.now))
+        (λ r. (q : Path) → content_at r q ≡ brought_within depth tree.now folder.now q) result }
+{
+    match tree_within(alloc, tree, folder, depth) {
         Ok(tree) => Ok(Report::begin(tree)),
         Err(stop) => Err(stop),
+    }
+}
+
+// A folder without what is in it.
+fn bare_folder(alloc: Global) -> Result<Report, Stop>
+    ensures { Decides None (λ r. (q : Path) → content_at r q ≡ bare q) result }
+{
+    match Report::begin_empty(alloc) {
+        Ok(report) => Ok(report),
+        Err(_) => Err(Stop::OutOfMemory),
     }
 }
 
@@ -228,15 +247,13 @@ fn target_begun(
     tree: &Tree,
     source: &NodePath,
     target: &NodePath,
-    empty: bool,
+    shown: Shown,
 ) -> Result<Report, Stop>
-    requires { same_path target.now [] ≡ false }
     ensures { Decides (if is_none (finite.get tree.now source.now) then None
-        else placing_denied bare target.now tree.now source.now empty)
-        (λ r. (q : Path) → content_at r q ≡ placed bare target.now (brought empty tree.now source.now) q) result }
+        else placing_denied bare target.now tree.now source.now shown)
+        (λ r. (q : Path) → content_at r q ≡ (if is_none (finite.get tree.now source.now) then bare
+        else placed bare target.now (brought shown tree.now source.now)) q) result }
 {
-    // For the proof: below a path at which nothing stands, nothing does.
-    tree.is_tree();
     let report = match Report::begin_empty(alloc) {
         Ok(report) => report,
         Err(_) => return Err(Stop::OutOfMemory),
@@ -244,7 +261,7 @@ fn target_begun(
     if tree.get(source.names()).is_none() {
         return Ok(report);
     }
-    with_target(alloc, report, tree, source, target, empty)
+    with_target(alloc, report, tree, source, target, shown)
 }
 
 // The same in a folder.
@@ -254,14 +271,14 @@ fn with_target(
     tree: &Tree,
     source: &NodePath,
     target: &NodePath,
-    empty: bool,
+    shown: Shown,
 ) -> Result<Report, Stop>
-    ensures { Decides (placing_denied (content_at report) target.now tree.now source.now empty)
+    ensures { Decides (placing_denied (content_at report) target.now tree.now source.now shown)
         (λ r. (q : Path) → content_at r q
-        ≡ placed (content_at report) target.now (brought empty tree.now source.now) q) result }
+        ≡ placed (content_at report) target.now (brought shown tree.now source.now) q) result }
 {
     let mut report = report;
-    match bring_from(alloc, &mut report, target, tree, source, empty) {
+    match bring_from(alloc, &mut report, target, tree, source, shown) {
         Ok(()) => Ok(report),
         Err(stop) => Err(stop),
     }

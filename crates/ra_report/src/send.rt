@@ -63,6 +63,7 @@ fn send_with<W: Write + Drop>(
         identity,
         revisions: plan.revisions.as_slice(),
         tells_root: plan.tells_root,
+        opens: plan.opens,
     };
     match send_update(alloc, plan.copy.report.tree(), &facts, out) {
         Ok(out) => Ok(out),

@@ -1,19 +1,20 @@
 //! One command of a report behind its first.
 
-ghost use Rattle.std.specs.Prelude.{◌≡◌, ◌++◌, [], ◌∷◌, not, None};
+ghost use Rattle.std.specs.Prelude.{◌≡◌, ◌++◌, [], ◌∷◌, not, None, OnOk};
 ghost use Rattle.dump_load.specs.Faults.{fault_if};
 ghost use Rattle.node_base.specs.Limits.{fits};
 ghost use Rattle.node_base.specs.Path.{Path, same_path};
-ghost use Rattle.tree_reports.specs.Reports.{brought, content_at, placed};
+ghost use Rattle.tree_reports.specs.Reports.{Answers, content_at, placed};
 ghost use Rattle.browse_wire.specs.Reports.{report_as, reported_as, LinkPath, SetPath};
 ghost use Rattle.ra_browse.specs.Tellings.{place_as, Decides, Finds, PortStays};
 ghost use Rattle.ra_browse.specs.declared.denial.Denial.TheVariants.{BadReport, NoPath};
-ghost use Rattle.ra_report.specs.Reports.{shallow_denied, placing_denied, source_denied, with_source, error_stop};
+ghost use Rattle.ra_report.specs.Reports.{links_denied, placing_denied, shown_fault, source_denied, with_source, error_stop};
 ghost use Rattle.ra_report.specs.Reports.{having, next, next_denied, switched};
+ghost use Rattle.ra_report.specs.Shown.{brought};
 
 use crate::order::path_at;
+use crate::shown::{Shown, shown_of};
 use crate::switched::{Switched, lying};
-use browse_wire::depth::Depth;
 use browse_wire::report::{ReportCommand, Reported};
 use browse_wire::url::SessionUrl;
 use node_base::{NodeName, NodePath};
@@ -23,6 +24,9 @@ use ra_browse::{Denial, Stop, stopped, tree_asked};
 use ra_serve::RepoPort;
 use std::alloc::Global;
 use tree_reports::{Report, ReportError};
+
+/// The most paths that a working copy may have switched.
+const MOST_LINKS: usize = 1024;
 
 /// Takes a command.
 pub fn take<P: RepoPort>(
@@ -69,9 +73,6 @@ fn set_path<P: RepoPort>(
         port.old port.new result }
     ensures stays { PortStays P.repository P.refusals P.is_mirror port.old port.new }
 {
-    if let Some(why) = shallow_denied(path.depth) {
-        return Err(Stop::Denied(why));
-    }
     match lying(alloc, &place.path, switches, &path.path) {
         Ok(source) => bring(alloc, port, report, path, &source),
         Err(stop) => Err(stop),
@@ -95,7 +96,7 @@ fn link_path<P: RepoPort>(
         port.old port.new result }
     ensures stays { PortStays P.repository P.refusals P.is_mirror port.old port.new }
 {
-    if let Some(why) = shallow_denied(path.depth) {
+    if let Some(why) = links_denied(switches.as_slice()) {
         return Err(Stop::Denied(why));
     }
     match path_at(alloc, place, url) {
@@ -171,27 +172,50 @@ fn bring<P: RepoPort>(
     ensures stays { PortStays P.repository P.refusals P.is_mirror port.old port.new }
 {
     match tree_asked(port, Some(path.revision)) {
-        Ok((_, tree)) => bring_from(alloc, report, &path.path, &tree, source, path.start_empty),
+        Ok((_, tree)) => {
+            let shown = shown_of(path);
+            bring_from(alloc, report, &path.path, &tree, source, shown)
+        }
         Err(fault) => Err(stopped(fault)),
     }
 }
 
-/// What stands at a source of a tree.
+/// So much of what stands at a source of a tree.
 pub fn bring_from(
     alloc: Global,
     report: &mut Report,
     path: &NodePath,
     tree: &Tree,
     source: &NodePath,
-    empty: bool,
+    shown: Shown,
 ) -> Result<(), Stop>
-    ensures { Decides (placing_denied (content_at report.old) path.now tree.now source.now empty)
+    ensures { Decides (placing_denied (content_at report.old) path.now tree.now source.now shown)
         (λ _. (q : Path) → content_at report.new q
-        ≡ placed (content_at report.old) path.now (brought empty tree.now source.now) q) result }
+        ≡ placed (content_at report.old) path.now (brought shown tree.now source.now) q) result }
 {
-    match report.set_path(alloc, path, tree, source, empty) {
+    match put(alloc, report, path, tree, source, shown) {
         Ok(()) => Ok(()),
         Err(error) => Err(stop_of(error)),
+    }
+}
+
+// The same as a report's call.
+fn put(
+    alloc: Global,
+    report: &mut Report,
+    path: &NodePath,
+    tree: &Tree,
+    source: &NodePath,
+    shown: Shown,
+) -> Result<(), ReportError>
+    ensures answer { Answers (shown_fault shown report.old path.now tree.now source.now) result }
+    ensures ok { OnOk result ((q : Path) → content_at report.new q
+        ≡ placed (content_at report.old) path.now (brought shown tree.now source.now) q) }
+{
+    match shown {
+        Shown::Emptied => report.set_path(alloc, path, tree, source, true),
+        Shown::Within(depth) => report.set_path_within(alloc, path, tree, source, depth),
+        Shown::LeftOut => report.leave_out(alloc, path),
     }
 }
 
@@ -217,15 +241,14 @@ pub fn path_below(alloc: Global, front: &NodePath, rest: &[NodeName]) -> Result<
     }
 }
 
-/// Whether a path isn't reported with all below it.
-pub fn shallow_denied(depth: Depth) -> Option<Denial>
-    ensures { result ≡ shallow_denied depth }
+// Whether no more paths may be switched.
+fn links_denied(switches: &[Switched]) -> Option<Denial>
+    ensures { result ≡ links_denied switches.now }
 {
-    match depth {
-        Depth::Infinity => None,
-        Depth::Empty => Some(Denial::Unsupported),
-        Depth::Files => Some(Denial::Unsupported),
-        Depth::Immediates => Some(Denial::Unsupported),
+    if switches.len() < MOST_LINKS {
+        None
+    } else {
+        Some(Denial::Unsupported)
     }
 }
 

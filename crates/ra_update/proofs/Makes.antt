@@ -55,12 +55,12 @@ makes m wanted k s h q =
     (sym (ap (option_map content) (drive_but_end m s q)) ∙ h q)
 
 -- what was written of changes between two trees is an update
-pub is_update : {T F : Type 0} (contents : T → Option (List ℕ)) (m : PathMap) (k : Facts) (out : T) (s items : List Change) (r : Result T F) → s ≡ items → DriveHasTheEffect → AreBetween m k.target.now items → IsNormal items
+pub is_update : {T F : Type 0} (contents : T → Option (List ℕ)) (m : PathMap) (k : Facts) (out : T) (s items : List Change) (r : Result T F) → s ≡ items → DriveHasTheEffect → AreBetween k.opens m k.target.now items → IsNormal items
     → ((q : Path) → option_map content (effect (m ∷ []) items q) ≡ option_map content (finite.get k.target.now q))
     → IfOk r (λ w. Appends (contents out) (contents w) (edit_bytes (calls_told k (m ∷ []) s) ++ spell end_item)) → OnOk r (fault (m ∷ []) s ≡ None) → IfOk r (IsUpdate contents m k out)
 is_update contents m k out s items (Ok w) e law between normal makes_it bytes faultless = record {
   changes = s;
-  between = subst (AreBetween m k.target.now) (sym e) between;
+  between = subst (AreBetween k.opens m k.target.now) (sym e) between;
   makes = makes m k.target.now k s (λ q. ap (option_map content) (law (m ∷ []) s (subst IsNormal (sym e) normal) faultless q ∙ ap (λ l. effect (m ∷ []) l q) e) ∙ makes_it q);
   bytes = bytes;
 }

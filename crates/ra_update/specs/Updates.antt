@@ -14,7 +14,7 @@ use Rattle.ra_update.specs.declared.facts.Facts.{Facts}
 -- the calls make what is wanted of what was reported, and behind what a writer had the other has their bytes and the end
 pub record IsUpdate {T : Type 0} (contents : T → Option (List ℕ)) (reported : PathMap) (k : Facts) (out written : T) : Type 0 where
   pub changes : List Change
-  pub between : AreBetween reported k.target.now changes
+  pub between : AreBetween k.opens reported k.target.now changes
   pub makes : Make reported k.target.now (calls_told k (reported ∷ []) changes)
   pub bytes : Appends (contents out) (contents written) (edit_bytes (calls_told k (reported ∷ []) changes) ++ spell end_item)
 

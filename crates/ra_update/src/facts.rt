@@ -19,4 +19,6 @@ pub struct Facts<'a> {
     /// Whether what is told of a node beside its own properties is told of the root too. Subversion's client takes none of
     /// it there where it named an entry of the root.
     pub tells_root: bool,
+    /// Whether folders in which nothing differs are opened too.
+    pub opens: bool,
 }

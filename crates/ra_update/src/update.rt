@@ -36,7 +36,7 @@ pub fn send_update<W: Write + Drop>(
 {
     // For the proof: where changes have no fault, the calls that they are driven as have their effect.
     editor_ends::law::drive_has_the_effect();
-    let changes = changes_between(alloc, reported, facts.target)?;
+    let changes = changes_between(alloc, reported, facts.target, facts.opens)?;
     send_over(alloc, reported, changes.as_slice(), facts, out)
 }
 

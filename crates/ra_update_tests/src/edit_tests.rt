@@ -117,6 +117,7 @@ fn is_edit(rt: &impl Abort, alloc: Global, from: u16, base: u16, to: u16, expect
         identity: b"6a1f0c3e-0000-4000-8000-0000000000a1",
         revisions: revisions.as_slice(),
         tells_root: true,
+        opens: false,
     };
     let out = send_update(alloc, &reported, &facts, Vec::new(alloc)).expect(rt, "memory");
     out.as_slice() == expected
@@ -162,6 +163,7 @@ fn is_edit_to(
         identity: b"6a1f0c3e-0000-4000-8000-0000000000a1",
         revisions: revisions.as_slice(),
         tells_root: true,
+        opens: false,
     };
     let out = send_update(alloc, reported, &facts, Vec::new(alloc)).expect(rt, "memory");
     out.as_slice() == expected
@@ -206,6 +208,7 @@ fn nothing_is_told_of_the_root_of_a_target(rt: HostRuntime) {
         identity: b"6a1f0c3e-0000-4000-8000-0000000000a1",
         revisions: revisions.as_slice(),
         tells_root: false,
+        opens: false,
     };
     let out = send_update(alloc, &tree, &facts, Vec::new(alloc)).expect(&rt, "memory");
     assert!(rt; out.as_slice() == UNTOLD);

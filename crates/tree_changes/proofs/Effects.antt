@@ -1,5 +1,5 @@
 -- The changes that differences are have the new tree for their effect on the old one.
-use Rattle.std.proofs.Common.{◌≡◌, ℕ, Bool, true, false, true≢false, append-nil, unwrap_or, cond, not, ◌&&◌, ◌||◌, T, List, [], ◌∷◌, ◌++◌, Option, Some, None, IsSome, IsNone, IsSomeAnd, is_some, refl, sym, ap, subst, ◌∙◌}
+use Rattle.std.proofs.Common.{◌≡◌, ℕ, Bool, true, false, true≢false, append-nil, unwrap_or, cond, ◌&&◌, ◌||◌, T, List, [], ◌∷◌, ◌++◌, Option, Some, None, IsSome, IsNone, IsSomeAnd, is_some, is_none, refl, sym, ap, subst, ◌∙◌}
 use Rattle.std.specs.Option.{option_map, option_map_or, option_and_then, option_or}
 use Rattle.std.specs.FinMap as finite
 use Rattle.std.specs.FinMap.{find, is_sorted}
@@ -137,20 +137,20 @@ some_there : {A : Type 0} (o : Option A) (x : A) → o ≡ Some x → IsSome o
 some_there o x e = subst IsSome (sym e) refl
 
 -- a node that was there isn't told to be added
-was_there : (x : Node) (u : Option Node) (b : Bool) → settled_by (told (Some x) u b) ≡ takes_below (told (Some x) u b)
-was_there x None true = refl
-was_there x None false = refl
-was_there x (Some y) b = elim (are_other_kinds (is_some x.text) (is_some y.text)) as (λ k. settled_by (cond k (Some (Replaced y)) (told_same_kind y (parts_of x y))) ≡ takes_below (cond k (Some (Replaced y)) (told_same_kind y (parts_of x y)))) [
+was_there : (opens : Bool) (x : Node) (u : Option Node) (b : Bool) → settled_by (told opens (Some x) u b) ≡ takes_below (told opens (Some x) u b)
+was_there opens x None true = refl
+was_there opens x None false = refl
+was_there opens x (Some y) b = elim (are_other_kinds (is_some x.text) (is_some y.text)) as (λ k. settled_by (cond k (Some (Replaced y)) (told_same_kind opens y (parts_of x y))) ≡ takes_below (cond k (Some (Replaced y)) (told_same_kind opens y (parts_of x y)))) [
   | true ↦ refl
-  | false ↦ elim (not (parts_of x y).props && not (parts_of x y).text) as (λ k. settled_by (cond k None (Some (Changed y (parts_of x y)))) ≡ takes_below (cond k None (Some (Changed y (parts_of x y))))) [ true ↦ refl | false ↦ refl ]
+  | false ↦ elim ((parts_of x y).props || (parts_of x y).text || (opens && is_none y.text)) as (λ k. settled_by (cond k (Some (Changed y (parts_of x y))) None) ≡ takes_below (cond k (Some (Changed y (parts_of x y))) None)) [ true ↦ refl | false ↦ refl ]
 ]
 
 -- above a path that was there
-above_was_there : (f g : Path → Option Node) → HasFronts f → (q : Path) → IsSome (f q) → (p : Path) (n : Name) (r : Path) → q ≡ p ++ n ∷ r → settled_by (told_at f g p) ≡ takes_below (told_at f g p)
-above_was_there f g hf q some p n r e =
-    elim (f p) as (λ o. IsSomeAnd o (λ x. IsNone x.text) → settled_by (told o (g p) (is_some (blocked g p))) ≡ takes_below (told o (g p) (is_some (blocked g p)))) [
+above_was_there : (opens : Bool) (f g : Path → Option Node) → HasFronts f → (q : Path) → IsSome (f q) → (p : Path) (n : Name) (r : Path) → q ≡ p ++ n ∷ r → settled_by (told_at opens f g p) ≡ takes_below (told_at opens f g p)
+above_was_there opens f g hf q some p n r e =
+    elim (f p) as (λ o. IsSomeAnd o (λ x. IsNone x.text) → settled_by (told opens o (g p) (is_some (blocked g p))) ≡ takes_below (told opens o (g p) (is_some (blocked g p)))) [
       | None ↦ λ d. absurd d
-      | Some x ↦ λ d. was_there x (g p) (is_some (blocked g p))
+      | Some x ↦ λ d. was_there opens x (g p) (is_some (blocked g p))
     ] (fronts_all f hf p n r (subst (λ z. IsSome (f z)) e some))
 
 -- ---- what the changes lay
@@ -213,16 +213,16 @@ changed_content : (q : Path) (y : Node) (parts : Parts) (x : Node) → are_other
 changed_content q y parts x k = λ i. record { text = changed_text parts.text x.text y.text k i; props = changed_props parts.props x.props y.props i }
 
 -- what changes is of the same kind as before
-same_kinds : (x : Node) (u : Option Node) (b : Bool) (y : Node) (parts : Parts) → told (Some x) u b ≡ Some (Changed y parts) → are_other_kinds (is_some x.text) (is_some y.text) ≡ false
-same_kinds x None true y parts e = cc
-same_kinds x None false y parts e = cc
-same_kinds x (Some z) b y parts e = by (are_other_kinds (is_some x.text) (is_some z.text)) refl e
+same_kinds : (opens : Bool) (x : Node) (u : Option Node) (b : Bool) (y : Node) (parts : Parts) → told opens (Some x) u b ≡ Some (Changed y parts) → are_other_kinds (is_some x.text) (is_some y.text) ≡ false
+same_kinds opens x None true y parts e = cc
+same_kinds opens x None false y parts e = cc
+same_kinds opens x (Some z) b y parts e = by (are_other_kinds (is_some x.text) (is_some z.text)) refl e
   where
-    by : (k : Bool) → are_other_kinds (is_some x.text) (is_some z.text) ≡ k → cond k (Some (Replaced z)) (told_same_kind z (parts_of x z)) ≡ Some (Changed y parts) → are_other_kinds (is_some x.text) (is_some y.text) ≡ false
+    by : (k : Bool) → are_other_kinds (is_some x.text) (is_some z.text) ≡ k → cond k (Some (Replaced z)) (told_same_kind opens z (parts_of x z)) ≡ Some (Changed y parts) → are_other_kinds (is_some x.text) (is_some y.text) ≡ false
     by true is e = cc
-    by false is e = in_kind (not (parts_of x z).props && not (parts_of x z).text) is e
+    by false is e = in_kind ((parts_of x z).props || (parts_of x z).text || (opens && is_none z.text)) is e
       where
-        in_kind : (k : Bool) → are_other_kinds (is_some x.text) (is_some z.text) ≡ false → cond k None (Some (Changed z (parts_of x z))) ≡ Some (Changed y parts) → are_other_kinds (is_some x.text) (is_some y.text) ≡ false
+        in_kind : (k : Bool) → are_other_kinds (is_some x.text) (is_some z.text) ≡ false → cond k (Some (Changed z (parts_of x z))) None ≡ Some (Changed y parts) → are_other_kinds (is_some x.text) (is_some y.text) ≡ false
         in_kind true is e = cc
         in_kind false is e = cc
 
@@ -231,11 +231,11 @@ none_both true = refl
 none_both false = refl
 
 -- some of what differs between two trees is told
-pub record ArePart (f g : Path → Option Node) (es : List (Path × Told)) : Type 0 where
+pub record ArePart (opens : Bool) (f g : Path → Option Node) (es : List (Path × Told)) : Type 0 where
   pub in_order : T (is_sorted path_cmp es)
-  pub each : (p : Path) (t : Told) → find path_cmp p es ≡ Some t → told_at f g p ≡ Some t
+  pub each : (p : Path) (t : Told) → find path_cmp p es ≡ Some t → told_at opens f g p ≡ Some t
 
-module _ (m : PathMap) (g : Path → Option Node) (es : List (Path × Told)) (fronts : HasFronts (finite.get m)) (h : ArePart (finite.get m) g es) where
+module _ (opens : Bool) (m : PathMap) (g : Path → Option Node) (es : List (Path × Told)) (fronts : HasFronts (finite.get m)) (h : ArePart opens (finite.get m) g es) where
   abbrev f : Path → Option Node
   f = finite.get m
 
@@ -268,7 +268,7 @@ module _ (m : PathMap) (g : Path → Option Node) (es : List (Path × Told)) (fr
           ∙ ap (option_and_then (brought (m ∷ []) (told_change p t.0))) (rest_after-append p (n ∷ r))
           ∙ nothing_below (m ∷ []) p t.0 n r
 
-  above_settled : (p : Path) → settled_by (told_at f g p) ≡ takes_below (told_at f g p) → settled_by (d p) ≡ takes_below (d p)
+  above_settled : (p : Path) → settled_by (told_at opens f g p) ≡ takes_below (told_at opens f g p) → settled_by (d p) ≡ takes_below (d p)
   above_settled p k = by (d p) refl
     where
       by : (o : Option Told) → d p ≡ o → settled_by (d p) ≡ takes_below (d p)
@@ -277,7 +277,7 @@ module _ (m : PathMap) (g : Path → Option Node) (es : List (Path × Told)) (fr
 
   above_goes : (q : Path) → IsSome (f q) → settled_by (d q) ≡ false → is_some (governing cs q) ≡ goes_with d q
   above_goes q some here = settled_above s d q (λ p. ap is_some (s_is p) ∙ is_some_kept p (d p)) here
-      (λ p n r e. above_settled p (above_was_there f g fronts q some p n r e))
+      (λ p n r e. above_settled p (above_was_there opens f g fronts q some p n r e))
 
   laid_unsettled : (q : Path) → settled_by (d q) ≡ false → laid (m ∷ []) cs q ≡ cond (goes_with d q) None (f q)
   laid_unsettled q here = by (governing cs q) refl
@@ -327,16 +327,16 @@ module _ (m : PathMap) (g : Path → Option Node) (es : List (Path × Told)) (fr
         where
           same : (u : Option Node) → f q ≡ u → option_map (λ x. content (with_parts (told_change q (Changed y parts)) x)) u ≡ option_map (make.with_parts y parts) (option_map content u)
           same None e = refl
-          same (Some x) e = ap (λ c. Some c) (changed_content q y parts x (same_kinds x (g q) (is_some (blocked g q)) y parts (ap (λ u. told u (g q) (is_some (blocked g q))) (sym e) ∙ h.each q (Changed y parts) is)))
+          same (Some x) e = ap (λ c. Some c) (changed_content q y parts x (same_kinds opens x (g q) (is_some (blocked g q)) y parts (ap (λ u. told opens u (g q) (is_some (blocked g q))) (sym e) ∙ h.each q (Changed y parts) is)))
 
           each : (b : Bool) → option_map (λ x. content (with_parts (told_change q (Changed y parts)) x)) (cond b None (f q)) ≡ option_map (make.with_parts y parts) (cond b None (option_map content (f q)))
           each true = refl
           each false = same (f q) refl
 
 -- the effect of the changes that they are
-pub effect_part : (m : PathMap) (g : Path → Option Node) (es : List (Path × Told)) → HasFronts (finite.get m) → ArePart (finite.get m) g es → (q : Path) → option_map content (effect (m ∷ []) (changes_of es) q) ≡ applied (λ q. find path_cmp q es) (finite.get m) q
-effect_part m g es fronts h q = effect_applied m g es fronts h q
+pub effect_part : (opens : Bool) (m : PathMap) (g : Path → Option Node) (es : List (Path × Told)) → HasFronts (finite.get m) → ArePart opens (finite.get m) g es → (q : Path) → option_map content (effect (m ∷ []) (changes_of es) q) ≡ applied (λ q. find path_cmp q es) (finite.get m) q
+effect_part opens m g es fronts h q = effect_applied opens m g es fronts h q
 
 -- the effect of the changes is the new tree
-pub effect_makes : (m : PathMap) (g : Path → Option Node) (es : List (Path × Told)) → HasFronts (finite.get m) → AreDifferences (finite.get m) g es → Make es (finite.get m) g → (q : Path) → option_map content (effect (m ∷ []) (changes_of es) q) ≡ option_map content (g q)
-effect_makes m g es fronts h made q = effect_applied m g es fronts (record { in_order = h.in_order; each = λ p t e. sym (h.each p) ∙ e }) q ∙ made q
+pub effect_makes : (opens : Bool) (m : PathMap) (g : Path → Option Node) (es : List (Path × Told)) → HasFronts (finite.get m) → AreDifferences opens (finite.get m) g es → Make es (finite.get m) g → (q : Path) → option_map content (effect (m ∷ []) (changes_of es) q) ≡ option_map content (g q)
+effect_makes opens m g es fronts h made q = effect_applied opens m g es fronts (record { in_order = h.in_order; each = λ p t e. sym (h.each p) ∙ e }) q ∙ made q

@@ -1,5 +1,5 @@
 -- The changes that make one tree of another have no fault over it.
-use Rattle.std.proofs.Common.{◌≡◌, Bool, true, false, true≢false, cond, not, ◌&&◌, ◌||◌, T, List, [], ◌∷◌, ◌++◌, Option, Some, None, IsSome, IsNone, IsSomeAnd, is_some, refl, sym, ap, subst, ◌∙◌, append_assoc}
+use Rattle.std.proofs.Common.{◌≡◌, Bool, true, false, true≢false, cond, not, ◌&&◌, ◌||◌, T, List, [], ◌∷◌, ◌++◌, Option, Some, None, IsSome, IsNone, IsSomeAnd, is_some, is_none, refl, sym, ap, subst, ◌∙◌, append_assoc}
 use Rattle.std.proofs.lemmas.Option.{same_Some}
 use Rattle.std.specs.Option.{option_map, option_map_or, option_or}
 use Rattle.std.specs.FinMap as finite
@@ -56,36 +56,36 @@ same_kinds true false e = absurd (true≢false e)
 same_kinds false true e = absurd (true≢false e)
 same_kinds false false e = refl
 
-told_is : (o u : Option Node) (b : Bool) (t : Told) → told o u b ≡ Some t → IsTold o u b t
-told_is None None b t e = absurd cc
-told_is None (Some y) b t e = subst (IsTold None (Some y) b) (same_Some (Added y) t e) (refl, refl)
-told_is (Some x) None true t e = absurd cc
-told_is (Some x) None false t e = subst (IsTold (Some x) None false) (same_Some Removed t e) (refl, refl)
-told_is (Some x) (Some y) b t e = by (are_other_kinds (is_some x.text) (is_some y.text)) (not (parts_of x y).props && not (parts_of x y).text) refl e
+told_is : (opens : Bool) (o u : Option Node) (b : Bool) (t : Told) → told opens o u b ≡ Some t → IsTold o u b t
+told_is opens None None b t e = absurd cc
+told_is opens None (Some y) b t e = subst (IsTold None (Some y) b) (same_Some (Added y) t e) (refl, refl)
+told_is opens (Some x) None true t e = absurd cc
+told_is opens (Some x) None false t e = subst (IsTold (Some x) None false) (same_Some Removed t e) (refl, refl)
+told_is opens (Some x) (Some y) b t e = by (are_other_kinds (is_some x.text) (is_some y.text)) ((parts_of x y).props || (parts_of x y).text || (opens && is_none y.text)) refl e
   where
-    by : (k l : Bool) → are_other_kinds (is_some x.text) (is_some y.text) ≡ k → cond k (Some (Replaced y)) (cond l None (Some (Changed y (parts_of x y)))) ≡ Some t → IsTold (Some x) (Some y) b t
+    by : (k l : Bool) → are_other_kinds (is_some x.text) (is_some y.text) ≡ k → cond k (Some (Replaced y)) (cond l (Some (Changed y (parts_of x y))) None) ≡ Some t → IsTold (Some x) (Some y) b t
     by true l is e = subst (IsTold (Some x) (Some y) b) (same_Some (Replaced y) t e) (refl, refl)
-    by false true is e = absurd cc
-    by false false is e = subst (IsTold (Some x) (Some y) b) (same_Some (Changed y (parts_of x y)) t e) (same_kinds (is_some x.text) (is_some y.text) is, refl)
+    by false false is e = absurd cc
+    by false true is e = subst (IsTold (Some x) (Some y) b) (same_Some (Changed y (parts_of x y)) t e) (same_kinds (is_some x.text) (is_some y.text) is, refl)
 
 -- the roots are directories, so that none is told to go or to come
-root_told : (o u : Option Node) (t : Told) → IsSomeAnd o (λ x. IsNone x.text) → IsSomeAnd u (λ x. IsNone x.text) → told o u false ≡ Some t → settled t ≡ false
-root_told None u t d e h = absurd d
-root_told (Some x) None t d e h = absurd e
-root_told (Some x) (Some y) t d e h =
-    let k : cond (are_other_kinds (is_some x.text) (is_some y.text)) (Some (Replaced y)) (told_same_kind y (parts_of x y)) ≡ told_same_kind y (parts_of x y) = λ i. cond (are_other_kinds (not_some x.text d i) (not_some y.text e i)) (Some (Replaced y)) (told_same_kind y (parts_of x y)) in
-    by (not (parts_of x y).props && not (parts_of x y).text) (sym k ∙ h)
+root_told : (opens : Bool) (o u : Option Node) (t : Told) → IsSomeAnd o (λ x. IsNone x.text) → IsSomeAnd u (λ x. IsNone x.text) → told opens o u false ≡ Some t → settled t ≡ false
+root_told opens None u t d e h = absurd d
+root_told opens (Some x) None t d e h = absurd e
+root_told opens (Some x) (Some y) t d e h =
+    let k : cond (are_other_kinds (is_some x.text) (is_some y.text)) (Some (Replaced y)) (told_same_kind opens y (parts_of x y)) ≡ told_same_kind opens y (parts_of x y) = λ i. cond (are_other_kinds (not_some x.text d i) (not_some y.text e i)) (Some (Replaced y)) (told_same_kind opens y (parts_of x y)) in
+    by ((parts_of x y).props || (parts_of x y).text || (opens && is_none y.text)) (sym k ∙ h)
   where
-    by : (l : Bool) → cond l None (Some (Changed y (parts_of x y))) ≡ Some t → settled t ≡ false
-    by true k = absurd cc
-    by false k = subst (λ v. settled v ≡ false) (same_Some (Changed y (parts_of x y)) t k) refl
+    by : (l : Bool) → cond l (Some (Changed y (parts_of x y))) None ≡ Some t → settled t ≡ false
+    by false k = absurd cc
+    by true k = subst (λ v. settled v ≡ false) (same_Some (Changed y (parts_of x y)) t k) refl
 
-not_root : (f g : Path → Option Node) (p : Path) (t : Told) → IsDirAt f [] → IsDirAt g [] → told_at f g p ≡ Some t → settled t ≡ true → same_path p [] ≡ false
-not_root f g p t d e h s = by (same_path p []) refl
+not_root : (opens : Bool) (f g : Path → Option Node) (p : Path) (t : Told) → IsDirAt f [] → IsDirAt g [] → told_at opens f g p ≡ Some t → settled t ≡ true → same_path p [] ≡ false
+not_root opens f g p t d e h s = by (same_path p []) refl
   where
     by : (b : Bool) → same_path p [] ≡ b → b ≡ false
     by false is = refl
-    by true is = absurd (true≢false (sym s ∙ root_told (f []) (g []) t d e (subst (λ q. told_at f g q ≡ Some t) (path_of_same p [] is) h)))
+    by true is = absurd (true≢false (sym s ∙ root_told opens (f []) (g []) t d e (subst (λ q. told_at opens f g q ≡ Some t) (path_of_same p [] is) h)))
 
 -- ---- above a path
 
@@ -121,24 +121,24 @@ open_at g hg p o (Changed y parts) h = not_blocked g hg p (some_there (g p) y h.
 or_false : (a b : Bool) → a ≡ false → b ≡ false → (a || b) ≡ false
 or_false a b p q = cc
 
-same_kind_stays : (y : Node) (d : Parts) → takes_below (told_same_kind y d) ≡ false
-same_kind_stays y d = elim (not d.props && not d.text) as (λ b. takes_below (cond b None (Some (Changed y d))) ≡ false) [ true ↦ refl | false ↦ refl ]
+same_kind_stays : (opens : Bool) (y : Node) (d : Parts) → takes_below (told_same_kind opens y d) ≡ false
+same_kind_stays opens y d = elim (d.props || d.text || (opens && is_none y.text)) as (λ b. takes_below (cond b (Some (Changed y d)) None) ≡ false) [ true ↦ refl | false ↦ refl ]
 
 -- where all above a path are directories still, nothing above it is told to go
-stays : (f g : Path → Option Node) → HasFronts f → (p : Path) → IsSome (f p) → is_some (blocked g p) ≡ false → goes_with (told_at f g) p ≡ false
-stays f g hf [] s = λ k. refl
-stays f g hf (n ∷ p) s =
-    elim (f []) as (λ u. IsSomeAnd u (λ x. IsNone x.text) → is_some (blocked g (n ∷ p)) ≡ false → (takes_below (told u (g []) false) || goes_with (λ q. told_at f g (n ∷ q)) p) ≡ false) [
+stays : (opens : Bool) (f g : Path → Option Node) → HasFronts f → (p : Path) → IsSome (f p) → is_some (blocked g p) ≡ false → goes_with (told_at opens f g) p ≡ false
+stays opens f g hf [] s = λ k. refl
+stays opens f g hf (n ∷ p) s =
+    elim (f []) as (λ u. IsSomeAnd u (λ x. IsNone x.text) → is_some (blocked g (n ∷ p)) ≡ false → (takes_below (told opens u (g []) false) || goes_with (λ q. told_at opens f g (n ∷ q)) p) ≡ false) [
       | None ↦ λ d. absurd d
       | Some x ↦ λ d. elim (g []) as (λ o. is_some (option_map_or (λ y. cond (is_some y.text) (Some NotDir) (blocked (λ q. g (n ∷ q)) p)) o (Some NoSuchPath)) ≡ false
-          → (takes_below (told (Some x) o false) || goes_with (λ q. told (f (n ∷ q)) (g (n ∷ q)) (is_some (option_map_or (λ y. cond (is_some y.text) (Some NotDir) (blocked (λ r. g (n ∷ r)) q)) o (Some NoSuchPath)))) p) ≡ false) [
+          → (takes_below (told opens (Some x) o false) || goes_with (λ q. told opens (f (n ∷ q)) (g (n ∷ q)) (is_some (option_map_or (λ y. cond (is_some y.text) (Some NotDir) (blocked (λ r. g (n ∷ r)) q)) o (Some NoSuchPath)))) p) ≡ false) [
             | None ↦ λ e. absurd (true≢false e)
             | Some y ↦ elim (is_some y.text) as (λ b. is_some (cond b (Some NotDir) (blocked (λ q. g (n ∷ q)) p)) ≡ false
-                → (takes_below (cond (are_other_kinds (is_some x.text) b) (Some (Replaced y)) (told_same_kind y (parts_of x y))) || goes_with (λ q. told (f (n ∷ q)) (g (n ∷ q)) (is_some (cond b (Some NotDir) (blocked (λ r. g (n ∷ r)) q)))) p) ≡ false) [
+                → (takes_below (cond (are_other_kinds (is_some x.text) b) (Some (Replaced y)) (told_same_kind opens y (parts_of x y))) || goes_with (λ q. told opens (f (n ∷ q)) (g (n ∷ q)) (is_some (cond b (Some NotDir) (blocked (λ r. g (n ∷ r)) q)))) p) ≡ false) [
                   | true ↦ λ e. absurd (true≢false e)
                   | false ↦ λ e. or_false _ _
-                      (ap (λ a. takes_below (cond (are_other_kinds a false) (Some (Replaced y)) (told_same_kind y (parts_of x y)))) (not_some x.text d) ∙ same_kind_stays y (parts_of x y))
-                      (stays (λ q. f (n ∷ q)) (λ q. g (n ∷ q)) (λ q m. hf (n ∷ q) m) p s e)
+                      (ap (λ a. takes_below (cond (are_other_kinds a false) (Some (Replaced y)) (told_same_kind opens y (parts_of x y)))) (not_some x.text d) ∙ same_kind_stays opens y (parts_of x y))
+                      (stays opens (λ q. f (n ∷ q)) (λ q. g (n ∷ q)) (λ q m. hf (n ∷ q) m) p s e)
                 ]
           ]
     ] (fronts_all f hf [] n p s)
@@ -171,13 +171,13 @@ some_content None = refl
 some_content (Some x) = refl
 
 -- what the changes before one left: above its path what is wanted, and there what was there
-record IsBefore (f g : Path → Option Node) (p : Path) (now : Path → Option Node) : Type 0 where
+record IsBefore (opens : Bool) (f g : Path → Option Node) (p : Path) (now : Path → Option Node) : Type 0 where
   fronts : (q : Path) (n : Name) (r : Path) → p ≡ q ++ n ∷ r → option_map content (now q) ≡ option_map content (g q)
-  here : option_map content (now p) ≡ cond (goes_with (told_at f g) p) None (option_map content (f p))
+  here : option_map content (now p) ≡ cond (goes_with (told_at opens f g) p) None (option_map content (f p))
 
-module _ (f g : Path → Option Node) (hf : HasFronts f) (hg : HasFronts g) (df : IsDirAt f []) (dg : IsDirAt g []) (p : Path) (t : Told) (is : told_at f g p ≡ Some t) (trees : List PathMap) (now : Path → Option Node) (before : IsBefore f g p now) where
+module _ (opens : Bool) (f g : Path → Option Node) (hf : HasFronts f) (hg : HasFronts g) (df : IsDirAt f []) (dg : IsDirAt g []) (p : Path) (t : Told) (is : told_at opens f g p ≡ Some t) (trees : List PathMap) (now : Path → Option Node) (before : IsBefore opens f g p now) where
   says : IsTold (f p) (g p) (is_some (blocked g p)) t
-  says = told_is (f p) (g p) (is_some (blocked g p)) t is
+  says = told_is opens (f p) (g p) (is_some (blocked g p)) t is
 
   is_open : is_some (blocked g p) ≡ false
   is_open = open_at g hg p (f p) t says
@@ -193,8 +193,8 @@ module _ (f g : Path → Option Node) (hf : HasFronts f) (hg : HasFronts g) (df 
       none_either false = refl
 
       by : (o : Option Node) → f p ≡ o → option_map content (now p) ≡ option_map content (f p)
-      by None e = before.here ∙ ap (λ o. cond (goes_with (told_at f g) p) None (option_map content o)) e ∙ none_either (goes_with (told_at f g) p) ∙ sym (ap (option_map content) e)
-      by (Some x) e = before.here ∙ ap (λ b. cond b None (option_map content (f p))) (stays f g hf p (some_there (f p) x e) is_open)
+      by None e = before.here ∙ ap (λ o. cond (goes_with (told_at opens f g) p) None (option_map content o)) e ∙ none_either (goes_with (told_at opens f g) p) ∙ sym (ap (option_map content) e)
+      by (Some x) e = before.here ∙ ap (λ b. cond b None (option_map content (f p))) (stays opens f g hf p (some_there (f p) x e) is_open)
 
   there : is_some (now p) ≡ is_some (f p)
   there = sym (some_content (now p)) ∙ ap is_some stood ∙ some_content (f p)
@@ -208,7 +208,7 @@ module _ (f g : Path → Option Node) (hf : HasFronts f) (hg : HasFronts g) (df 
       by (Some z) (Some x) e k = text_fits parts.text (is_some z.text) y.text (ap is_some (ap (λ (o : Option Content). option_map_or (λ c. c.text) o None) e) ∙ k)
 
   no_fault : fault_of trees now (told_change p t) ≡ None
-  no_fault = by t says (not_root f g p t df dg is)
+  no_fault = by t says (not_root opens f g p t df dg is)
     where
       by : (v : Told) → IsTold (f p) (g p) (is_some (blocked g p)) v → (settled v ≡ true → same_path p [] ≡ false) → fault_of trees now (told_change p v) ≡ None
       by Removed k root =
@@ -286,45 +286,45 @@ changes_more (d ∷ ds) x = ap (λ l. change_of d ∷ l) (changes_more ds x)
 
 -- ---- all of them
 
-module _ (m : PathMap) (g : Path → Option Node) (es : List (Path × Told)) (hf : HasFronts (finite.get m)) (hg : HasFronts g) (df : IsDirAt (finite.get m) []) (dg : IsDirAt g []) (h : AreDifferences (finite.get m) g es) where
+module _ (opens : Bool) (m : PathMap) (g : Path → Option Node) (es : List (Path × Told)) (hf : HasFronts (finite.get m)) (hg : HasFronts g) (df : IsDirAt (finite.get m) []) (dg : IsDirAt g []) (h : AreDifferences opens (finite.get m) g es) where
   sorted : (ds xs : List (Path × Told)) → ds ++ xs ≡ es → T (is_sorted path_cmp (ds ++ xs))
   sorted ds xs e = subst (λ l. T (is_sorted path_cmp l)) (sym e) h.in_order
 
-  all_told : ◌≡◌ {A = Path → Option Told} (λ q. find path_cmp q es) (told_at (finite.get m) g)
+  all_told : ◌≡◌ {A = Path → Option Told} (λ q. find path_cmp q es) (told_at opens (finite.get m) g)
   all_told = λ i q. h.each q i
 
-  part : (ds xs : List (Path × Told)) → ds ++ xs ≡ es → ArePart (finite.get m) g ds
+  part : (ds xs : List (Path × Told)) → ds ++ xs ≡ es → ArePart opens (finite.get m) g ds
   part ds xs e = record {
     in_order = front_sorted ds xs (sorted ds xs e);
     each = λ p t k. sym (h.each p) ∙ ap (find path_cmp p) (sym e) ∙ found_front p ds xs t k;
   }
 
-  told_before : (ds : List (Path × Told)) (x : Path × Told) (xs : List (Path × Told)) → ds ++ x ∷ xs ≡ es → (q : Path) (n : Name) (r : Path) → x.0 ≡ q ++ n ∷ r → find path_cmp q ds ≡ told_at (finite.get m) g q
+  told_before : (ds : List (Path × Told)) (x : Path × Told) (xs : List (Path × Told)) → ds ++ x ∷ xs ≡ es → (q : Path) (n : Name) (r : Path) → x.0 ≡ q ++ n ∷ r → find path_cmp q ds ≡ told_at opens (finite.get m) g q
   told_before ds x xs e q n r s =
       sym (found_before q ds (x ∷ xs) (before_first q x xs (ap (path_cmp q) s ∙ before_below q r n) (rest_sorted ds (x ∷ xs) (sorted ds (x ∷ xs) e))))
       ∙ ap (find path_cmp q) e ∙ h.each q
 
-  is_before : (ds : List (Path × Told)) (x : Path × Told) (xs : List (Path × Told)) → ds ++ x ∷ xs ≡ es → IsBefore (finite.get m) g x.0 (effect (m ∷ []) (changes_of ds))
+  is_before : (ds : List (Path × Told)) (x : Path × Told) (xs : List (Path × Told)) → ds ++ x ∷ xs ≡ es → IsBefore opens (finite.get m) g x.0 (effect (m ∷ []) (changes_of ds))
   is_before ds x xs e = record {
     fronts = λ q n r s.
-        effect_part m g ds hf (part ds (x ∷ xs) e) q
-        ∙ (λ i. becomes (told_before ds x xs e q n r s i) (cond (goes_same (λ q. find path_cmp q ds) (told_at (finite.get m) g) q (λ a b c k. told_before ds x xs e a b (c ++ n ∷ r) (s ∙ ap (λ z. z ++ n ∷ r) k ∙ append_assoc a (b ∷ c) (n ∷ r))) i) None (option_map content (finite.get m q))))
+        effect_part opens m g ds hf (part ds (x ∷ xs) e) q
+        ∙ (λ i. becomes (told_before ds x xs e q n r s i) (cond (goes_same (λ q. find path_cmp q ds) (told_at opens (finite.get m) g) q (λ a b c k. told_before ds x xs e a b (c ++ n ∷ r) (s ∙ ap (λ z. z ++ n ∷ r) k ∙ append_assoc a (b ∷ c) (n ∷ r))) i) None (option_map content (finite.get m q))))
         ∙ sym (ap (λ d. applied d (finite.get m) q) all_told)
-        ∙ differences_make (finite.get m) g hf hg es h q;
+        ∙ differences_make opens (finite.get m) g hf hg es h q;
     here =
-        effect_part m g ds hf (part ds (x ∷ xs) e) x.0
-        ∙ (λ i. becomes (not_yet ds x xs (sorted ds (x ∷ xs) e) i) (cond (goes_same (λ q. find path_cmp q ds) (told_at (finite.get m) g) x.0 (told_before ds x xs e) i) None (option_map content (finite.get m x.0))));
+        effect_part opens m g ds hf (part ds (x ∷ xs) e) x.0
+        ∙ (λ i. becomes (not_yet ds x xs (sorted ds (x ∷ xs) e) i) (cond (goes_same (λ q. find path_cmp q ds) (told_at opens (finite.get m) g) x.0 (told_before ds x xs e) i) None (option_map content (finite.get m x.0))));
   }
 
-  told_here : (ds : List (Path × Told)) (x : Path × Told) (xs : List (Path × Told)) → ds ++ x ∷ xs ≡ es → told_at (finite.get m) g x.0 ≡ Some x.1
+  told_here : (ds : List (Path × Told)) (x : Path × Told) (xs : List (Path × Told)) → ds ++ x ∷ xs ≡ es → told_at opens (finite.get m) g x.0 ≡ Some x.1
   told_here ds x xs e = sym (h.each x.0) ∙ ap (find path_cmp x.0) (sym e) ∙ here_found ds x xs (not_yet ds x xs (sorted ds (x ∷ xs) e))
 
   none_after : (ds xs : List (Path × Told)) → ds ++ xs ≡ es → fault_after (m ∷ []) (changes_of ds) (changes_of xs) ≡ None
   none_after ds [] e = refl
   none_after ds (x ∷ xs) e =
-      ap (λ o. option_or o (fault_after (m ∷ []) (changes_of ds ++ change_of x ∷ []) (changes_of xs))) (no_fault (finite.get m) g hf hg df dg x.0 x.1 (told_here ds x xs e) (m ∷ []) (effect (m ∷ []) (changes_of ds)) (is_before ds x xs e))
+      ap (λ o. option_or o (fault_after (m ∷ []) (changes_of ds ++ change_of x ∷ []) (changes_of xs))) (no_fault opens (finite.get m) g hf hg df dg x.0 x.1 (told_here ds x xs e) (m ∷ []) (effect (m ∷ []) (changes_of ds)) (is_before ds x xs e))
       ∙ ap (λ l. fault_after (m ∷ []) l (changes_of xs)) (changes_more ds x)
       ∙ none_after (ds ++ x ∷ []) xs (append_assoc ds (x ∷ []) xs ∙ e)
 
-pub no_fault_between : (old new : PathMap) (es : List (Path × Told)) → IsTree old → IsTree new → Between old new es → fault (old ∷ []) (changes_of es) ≡ None
-no_fault_between old new es s t h = none_after old (finite.get new) es s.fronts t.fronts s.root t.root h [] es refl
+pub no_fault_between : (opens : Bool) (old new : PathMap) (es : List (Path × Told)) → IsTree old → IsTree new → Between opens old new es → fault (old ∷ []) (changes_of es) ≡ None
+no_fault_between opens old new es s t h = none_after opens old (finite.get new) es s.fronts t.fronts s.root t.root h [] es refl

@@ -1,5 +1,5 @@
 -- The changes that differences are, are normal, and their paths are within the limits.
-use Rattle.std.proofs.Common.{◌≡◌, Bool, true, false, true≢false, cond, not, ◌&&◌, T, List, [], ◌∷◌, ◌++◌, Option, Some, None, IsSome, is_some, refl, sym, ap, subst, ◌∙◌, append-nil}
+use Rattle.std.proofs.Common.{◌≡◌, Bool, true, false, true≢false, cond, ◌&&◌, ◌||◌, T, List, [], ◌∷◌, ◌++◌, Option, Some, None, IsSome, is_some, is_none, refl, sym, ap, subst, ◌∙◌, append-nil}
 use Rattle.std.specs.Option.{option_map_or}
 use Rattle.std.specs.List.{AllByRecursion}
 use Rattle.std.specs.FinMap as finite
@@ -49,13 +49,13 @@ some_there : {A : Type 0} (o : Option A) (x : A) → o ≡ Some x → IsSome o
 some_there o x e = subst IsSome (sym e) refl
 
 -- something stands or stood where something is told
-told_there : (o u : Option Node) (b : Bool) (t : Told) (P : Type 0) → told o u b ≡ Some t → (IsSome o → P) → (IsSome u → P) → P
-told_there None None b t P e f g = cc
-told_there None (Some y) b t P e f g = g refl
-told_there (Some x) u b t P e f g = f refl
+told_there : (opens : Bool) (o u : Option Node) (b : Bool) (t : Told) (P : Type 0) → told opens o u b ≡ Some t → (IsSome o → P) → (IsSome u → P) → P
+told_there opens None None b t P e f g = cc
+told_there opens None (Some y) b t P e f g = g refl
+told_there opens (Some x) u b t P e f g = f refl
 
-pub paths_fit : (old new : PathMap) → IsTree old → IsTree new → (es : List (Path × Told)) → AreDifferences (finite.get old) (finite.get new) es → AllByRecursion Fits es
-paths_fit old new s t es h = all_map (IsFound es) Fits (λ e is. told_there (finite.get old e.0) (finite.get new e.0) (is_some (blocked (finite.get new) e.0)) e.1 (Fits e) (sym (h.each e.0) ∙ is) (s.small e.0) (t.small e.0)) es (all_found es h.in_order)
+pub paths_fit : (opens : Bool) (old new : PathMap) → IsTree old → IsTree new → (es : List (Path × Told)) → AreDifferences opens (finite.get old) (finite.get new) es → AllByRecursion Fits es
+paths_fit opens old new s t es h = all_map (IsFound es) Fits (λ e is. told_there opens (finite.get old e.0) (finite.get new e.0) (is_some (blocked (finite.get new) e.0)) e.1 (Fits e) (sym (h.each e.0) ∙ is) (s.small e.0) (t.small e.0)) es (all_found es h.in_order)
 
 -- ---- whole changes
 
@@ -83,26 +83,26 @@ blocked_below g (m ∷ p) n r h = by (g []) (blocked_below (λ q. g (m ∷ q)) p
     by (Some x) below = elim (is_some x.text) as (λ b. is_some (cond b (Some NotDir) (blocked (λ q. g (m ∷ q)) (p ++ n ∷ r))) ≡ true) [ true ↦ refl | false ↦ below ]
 
 -- what goes isn't there any more
-removed_is_gone : (o u : Option Node) (b : Bool) → told o u b ≡ Some Removed → u ≡ None
-removed_is_gone None None b e = refl
-removed_is_gone None (Some y) b e = cc
-removed_is_gone (Some x) None b e = refl
-removed_is_gone (Some x) (Some y) b e = by (are_other_kinds (is_some x.text) (is_some y.text)) (not (parts_of x y).props && not (parts_of x y).text) e
+removed_is_gone : (opens : Bool) (o u : Option Node) (b : Bool) → told opens o u b ≡ Some Removed → u ≡ None
+removed_is_gone opens None None b e = refl
+removed_is_gone opens None (Some y) b e = cc
+removed_is_gone opens (Some x) None b e = refl
+removed_is_gone opens (Some x) (Some y) b e = by (are_other_kinds (is_some x.text) (is_some y.text)) ((parts_of x y).props || (parts_of x y).text || (opens && is_none y.text)) e
   where
-    by : (k l : Bool) → cond k (Some (Replaced y)) (cond l None (Some (Changed y (parts_of x y)))) ≡ Some Removed → Some y ≡ None
+    by : (k l : Bool) → cond k (Some (Replaced y)) (cond l (Some (Changed y (parts_of x y))) None) ≡ Some Removed → Some y ≡ None
     by true l e = cc
     by false true e = cc
     by false false e = cc
 
-told_none : (o : Option Node) → told o None true ≡ None
-told_none None = refl
-told_none (Some x) = refl
+told_none : (opens : Bool) (o : Option Node) → told opens o None true ≡ None
+told_none opens None = refl
+told_none opens (Some x) = refl
 
-none_told_below : (f g : Path → Option Node) → HasFronts g → (p : Path) (n : Name) (r : Path) → told_at f g p ≡ Some Removed → told_at f g (p ++ n ∷ r) ≡ None
-none_told_below f g hg p n r e =
-    let gone = removed_is_gone (f p) (g p) (is_some (blocked g p)) e in
-    (λ i. told (f (p ++ n ∷ r)) (nothing_below g hg p gone (n ∷ r) i) (blocked_below g p n r gone i))
-    ∙ told_none (f (p ++ n ∷ r))
+none_told_below : (opens : Bool) (f g : Path → Option Node) → HasFronts g → (p : Path) (n : Name) (r : Path) → told_at opens f g p ≡ Some Removed → told_at opens f g (p ++ n ∷ r) ≡ None
+none_told_below opens f g hg p n r e =
+    let gone = removed_is_gone opens (f p) (g p) (is_some (blocked g p)) e in
+    (λ i. told opens (f (p ++ n ∷ r)) (nothing_below g hg p gone (n ∷ r) i) (blocked_below g p n r gone i))
+    ∙ told_none opens (f (p ++ n ∷ r))
 
 -- ---- a change stands before a later one
 
@@ -118,17 +118,17 @@ path_of_change p (Added y) = refl
 path_of_change p (Replaced y) = refl
 path_of_change p (Changed y parts) = refl
 
-module _ (f g : Path → Option Node) (hg : HasFronts g) (es : List (Path × Told)) (h : AreDifferences f g es) where
+module _ (opens : Bool) (f g : Path → Option Node) (hg : HasFronts g) (es : List (Path × Told)) (h : AreDifferences opens f g es) where
   no_front : (e x : Path × Told) → IsFound es e → IsFound es x → path_cmp e.0 x.0 ≡ Less → is_delete (change_of e).action ≡ true → is_front e.0 x.0 ≡ false
   no_front e x is there less deletes = by (rest_after e.0 x.0) refl
     where
-      removed : told_at f g e.0 ≡ Some Removed
+      removed : told_at opens f g e.0 ≡ Some Removed
       removed = sym (h.each e.0) ∙ is ∙ ap (λ t. Some t) (deleted_is_removed e.0 e.1 deletes)
 
       by : (o : Option Path) → rest_after e.0 x.0 ≡ o → is_some o ≡ false
       by None at = refl
       by (Some []) at = cc (sym less ∙ ap (path_cmp e.0) (append_of_rest e.0 x.0 [] at ∙ append-nil e.0) ∙ tied_itself paths_total e.0)
-      by (Some (n ∷ r)) at = cc (sym there ∙ h.each x.0 ∙ ap (told_at f g) (append_of_rest e.0 x.0 (n ∷ r) at) ∙ none_told_below f g hg e.0 n r removed)
+      by (Some (n ∷ r)) at = cc (sym there ∙ h.each x.0 ∙ ap (told_at opens f g) (append_of_rest e.0 x.0 (n ∷ r) at) ∙ none_told_below opens f g hg e.0 n r removed)
 
   precedes : (e x : Path × Told) → IsFound es e → IsFound es x → path_cmp e.0 x.0 ≡ Less → Precedes (change_of e) (change_of x)
   precedes e x is there less = record {
@@ -148,5 +148,5 @@ module _ (f g : Path → Option Node) (hg : HasFronts g) (es : List (Path × Tol
       let b = both_true _ _ s in
       (whole x, all_precede x xs there.0 there.1 b.0, all_normal xs there.1 b.1)
 
-pub normal : (f g : Path → Option Node) → HasFronts g → (es : List (Path × Told)) → AreDifferences f g es → IsNormal (changes_of es)
-normal f g hg es h = all_normal f g hg es h es (all_found es h.in_order) h.in_order
+pub normal : (opens : Bool) (f g : Path → Option Node) → HasFronts g → (es : List (Path × Told)) → AreDifferences opens f g es → IsNormal (changes_of es)
+normal opens f g hg es h = all_normal opens f g hg es h es (all_found es h.in_order) h.in_order

@@ -1,6 +1,6 @@
 -- The changes that differences of two trees are.
 use Rattle.std.specs.FinMap as finite
-use Rattle.std.specs.Prelude.{◌≡◌, true, List, map, Some, None, if◌then◌else◌}
+use Rattle.std.specs.Prelude.{◌≡◌, Bool, true, List, map, Some, None, if◌then◌else◌}
 use Rattle.node_base.specs.Limits.{fits}
 use Rattle.node_base.specs.Path.{Path}
 use Rattle.node_base.specs.Tree.{PathMap, kind_of}
@@ -39,10 +39,10 @@ changes_of = map change_of
 abbrev pub Fits : Path × Told → Type 0
 Fits e = fits e.0 ≡ true
 
--- all that differs between two trees is told
-abbrev pub Between : PathMap → PathMap → List (Path × Told) → Type 0
-Between old new es = AreDifferences (finite.get old) (finite.get new) es
+-- all that differs between two trees is told, by whether folders are told though nothing differs in them
+abbrev pub Between : Bool → PathMap → PathMap → List (Path × Told) → Type 0
+Between opens old new es = AreDifferences opens (finite.get old) (finite.get new) es
 
--- the changes are those of what differs
-abbrev pub AreBetween : PathMap → PathMap → List Change → Type 0
-AreBetween old new cs = (es : List (Path × Told)) × Between old new es × (cs ≡ changes_of es)
+-- the changes are those of what is told
+abbrev pub AreBetween : Bool → PathMap → PathMap → List Change → Type 0
+AreBetween opens old new cs = (es : List (Path × Told)) × Between opens old new es × (cs ≡ changes_of es)

@@ -1,5 +1,5 @@
 -- A folder's children, and what it is to put them into a root.
-use Rattle.std.proofs.Common.{◌≡◌, ℕ, ◌+◌, ◌≤◌, Bool, true, false, cond, not, ◌&&◌, ◌||◌, T, List, [], ◌∷◌, ◌++◌, length, Option, Some, None, IsNone, IsSomeAnd, is_some, refl, sym, ap, subst, ◌∙◌, true≢false, arith, append_assoc, append-nil, length-append, leb-true, le-leb}
+use Rattle.std.proofs.Common.{◌≡◌, ℕ, ◌+◌, ◌≤◌, Bool, true, false, cond, not, ◌&&◌, ◌||◌, T, List, [], ◌∷◌, ◌++◌, length, Option, Some, None, IsNone, IsSomeAnd, is_some, refl, sym, ap, subst, ◌∙◌, true≢false, arith, append_assoc, length-append, leb-true, le-leb}
 use Rattle.std.specs.List.{flat_map, list_any}
 use Rattle.std.specs.Option.{option_map, option_map_or}
 use Rattle.std.specs.Ordering.{is_lt, ordering_then}
@@ -12,7 +12,7 @@ use Rattle.node_base.specs.Limits.{fits, weight}
 use Rattle.node_base.specs.Path.{Name, Path, name_cmp, path_cmp, names_total, same_name, same_path, rest_after, is_front}
 use Rattle.node_base.proofs.PathLemmas.{same_path-cons, same_path_itself, same_name_itself, name_of_same, path_of_same, append_of_rest, weight-append}
 use Rattle.node_base.specs.declared.node.Node.{Node}
-use Rattle.node_base.specs.Tree.{PathMap, IsTree, marked, with_number, alone, blocked}
+use Rattle.node_base.specs.Tree.{PathMap, IsTree, with_number, blocked}
 use Rattle.node_base.specs.declared.fault.TreeFault.TheVariants.{NoSuchPath, NotDir}
 use Rattle.path_tree.specs.Calls.{copied}
 use Rattle.path_tree.specs.Children.{children_of, named_in, name_in}
@@ -20,7 +20,7 @@ use Rattle.path_tree.specs.Copies.{copy_too_long}
 use Rattle.path_tree.specs.JoinedLemmas.{both_true, true_both, find_absent}
 use Rattle.path_tree.proofs.Fronts.{nothing_below}
 use Rattle.tree_reports.specs.Applied.{content}
-use Rattle.tree_reports.specs.Folders.{IsGrafted}
+use Rattle.tree_reports.specs.Folders.{IsGrafted, in_folder}
 
 -- a path is a folder's and a name just where that name is its name in the folder
 one_name : (n k : Name) → same_path (n ∷ []) (k ∷ []) ≡ same_name n k
@@ -83,12 +83,16 @@ sorted_named p (e ∷ es) h =
       | Some l ↦ λ is. true_both _ _ (below_named p l es (subst (λ q. T (below_all path_cmp q es)) (path_named p e.0 l is) b.0)) rest
     ] refl
 
+-- nothing is in a folder below a name that no child has
+pub absent_below : (m : PathMap) (folder : Path) → IsTree m → (n : Name) (q : Path) → get m (folder ++ n ∷ []) ≡ None → in_folder m folder (n ∷ q) ≡ None
+absent_below m folder t n q e = ap (get m) (sym (append_assoc folder (n ∷ []) q)) ∙ nothing_below (get m) t.fronts (folder ++ n ∷ []) e q
+
 -- no child stands where none of the children is
-pub none_grafted : (m : PathMap) (folder : Path) (top : PathMap) → IsTree m → ((n : Name) (q : Path) → get top (n ∷ q) ≡ None) → IsGrafted m folder top top (children_of folder m)
-none_grafted m folder top t blank = record {
+pub none_grafted : (m : PathMap) (folder : Path) (given : Path → Option Node) (top : PathMap) → ((n : Name) (q : Path) → get m (folder ++ n ∷ []) ≡ None → given (n ∷ q) ≡ None) → ((n : Name) (q : Path) → get top (n ∷ q) ≡ None) → IsGrafted m folder given top top (children_of folder m)
+none_grafted m folder given top absent blank = record {
   root = refl;
-  done = λ n q. blank n q ∙ elim (find name_cmp n (children_of folder m)) as (λ o. find name_cmp n (children_of folder m) ≡ o → None ≡ cond (is_some o) None (get m (folder ++ n ∷ q))) [
-    | None ↦ λ e. sym (ap (get m) (sym (append_assoc folder (n ∷ []) q)) ∙ nothing_below (get m) t.fronts (folder ++ n ∷ []) (sym (find_child folder m n) ∙ e) q)
+  done = λ n q. blank n q ∙ elim (find name_cmp n (children_of folder m)) as (λ o. find name_cmp n (children_of folder m) ≡ o → None ≡ cond (is_some o) None (given (n ∷ q))) [
+    | None ↦ λ e. sym (absent n q (sym (find_child folder m n) ∙ e))
     | Some x ↦ λ _. refl
   ] refl;
   in_order = sorted_named folder (entries m) (entries_sorted m);
@@ -101,18 +105,18 @@ same_back n k e = subst (λ z. same_name z n ≡ true) (name_of_same n k e) (sam
 numbered_same : (x : Node) → ◌≡◌ {A = Option Node} (Some (with_number x.changed x)) (Some x)
 numbered_same x = refl
 
-no_front : (n x : Name) (q : Path) → same_name x n ≡ false → is_front (n ∷ q) (x ∷ []) ≡ false
+pub no_front : (n x : Name) (q : Path) → same_name x n ≡ false → is_front (n ∷ q) (x ∷ []) ≡ false
 no_front n x q e =
     elim (same_name n x) as (λ b. same_name n x ≡ b → is_some (cond b (rest_after q []) None) ≡ false) [
       | true ↦ λ s. absurd (true≢false (sym (same_back n x s) ∙ e))
       | false ↦ λ _. refl
     ] refl
 
-stays_there : (b : Bool) (k : ℕ) (o : Option Node) → b ≡ false → option_map (λ y. cond b (with_number k y) y) o ≡ o
+pub stays_there : (b : Bool) (k : ℕ) (o : Option Node) → b ≡ false → option_map (λ y. cond b (with_number k y) y) o ≡ o
 stays_there b k None e = refl
 stays_there b k (Some y) e = ap (λ t. Some (cond t (with_number k y) y)) e
 
-content_there : (b : Bool) (k : ℕ) (o : Option Node) → option_map content (option_map (λ y. cond b (with_number k y) y) o) ≡ option_map content o
+pub content_there : (b : Bool) (k : ℕ) (o : Option Node) → option_map content (option_map (λ y. cond b (with_number k y) y) o) ≡ option_map content o
 content_there b k None = refl
 content_there true k (Some y) = refl
 content_there false k (Some y) = refl
@@ -127,37 +131,47 @@ at_child m folder x node (k ∷ q) there =
     stays_there (is_front (x ∷ k ∷ q) (x ∷ [])) node.changed (get m ((folder ++ x ∷ []) ++ k ∷ q)) (ap (λ b. is_some {T = Path} (cond b (rest_after (k ∷ q) []) None)) (same_name_itself x))
     ∙ ap (get m) (append_assoc folder (x ∷ []) (k ∷ q))
 
-grafted_below : (m : PathMap) (folder : Path) (now new : PathMap) (x : Name) (node : Node) (rest : List (Name × Node)) → get m (folder ++ x ∷ []) ≡ Some node → T (below_all name_cmp x rest) → ((n : Name) (q : Path) → get now (n ∷ q) ≡ cond (is_some (find name_cmp n ((x, node) ∷ rest))) None (get m (folder ++ n ∷ q))) → ((q : Path) → get new q ≡ copied (get now) (x ∷ []) (λ r. get m ((folder ++ x ∷ []) ++ r)) node.changed q) → (n : Name) (q : Path) → get new (n ∷ q) ≡ cond (is_some (find name_cmp n rest)) None (get m (folder ++ n ∷ q))
-grafted_below m folder now new x node rest there first done is n q =
+-- below the name of a child stands what is given there, and the rest below the root is as before
+abbrev pub Puts : (Path → Option Node) → PathMap → PathMap → Name → Type 0
+Puts given now new x = (n : Name) (q : Path) → get new (n ∷ q) ≡ cond (same_name x n) (given (n ∷ q)) (get now (n ∷ q))
+
+puts_copied : (m : PathMap) (folder : Path) (now new : PathMap) (x : Name) (node : Node) → get m (folder ++ x ∷ []) ≡ Some node → ((q : Path) → get new q ≡ copied (get now) (x ∷ []) (λ r. get m ((folder ++ x ∷ []) ++ r)) node.changed q) → Puts (in_folder m folder) now new x
+puts_copied m folder now new x node there is n q =
     is (n ∷ q)
-    ∙ elim (same_name x n) as (λ b. same_name x n ≡ b → option_map (λ y. cond (is_front (n ∷ q) (x ∷ [])) (with_number node.changed y) y) (option_map_or (λ r. get m ((folder ++ x ∷ []) ++ r)) (cond b (Some q) None) (get now (n ∷ q))) ≡ cond (is_some (find name_cmp n rest)) None (get m (folder ++ n ∷ q))) [
+    ∙ elim (same_name x n) as (λ b. same_name x n ≡ b → option_map (λ y. cond (is_front (n ∷ q) (x ∷ [])) (with_number node.changed y) y) (option_map_or (λ r. get m ((folder ++ x ∷ []) ++ r)) (cond b (Some q) None) (get now (n ∷ q))) ≡ cond b (get m (folder ++ n ∷ q)) (get now (n ∷ q))) [
       | true ↦ λ s.
-          subst (λ k. option_map (λ y. cond (is_front (k ∷ q) (x ∷ [])) (with_number node.changed y) y) (get m ((folder ++ x ∷ []) ++ q)) ≡ cond (is_some (find name_cmp k rest)) None (get m (folder ++ k ∷ q))) (name_of_same x n s)
-          (at_child m folder x node q there ∙ ap (λ o. cond (is_some o) None (get m (folder ++ x ∷ q))) (sym (find_absent x rest first)))
+          subst (λ k. option_map (λ y. cond (is_front (k ∷ q) (x ∷ [])) (with_number node.changed y) y) (get m ((folder ++ x ∷ []) ++ q)) ≡ get m (folder ++ k ∷ q)) (name_of_same x n s) (at_child m folder x node q there)
+      | false ↦ λ s. stays_there (is_front (n ∷ q) (x ∷ [])) node.changed (get now (n ∷ q)) (no_front n x q s)
+    ] refl
+
+grafted_below : (given : Path → Option Node) (now new : PathMap) (x : Name) (node : Node) (rest : List (Name × Node)) → T (below_all name_cmp x rest) → ((n : Name) (q : Path) → get now (n ∷ q) ≡ cond (is_some (find name_cmp n ((x, node) ∷ rest))) None (given (n ∷ q))) → Puts given now new x → (n : Name) (q : Path) → get new (n ∷ q) ≡ cond (is_some (find name_cmp n rest)) None (given (n ∷ q))
+grafted_below given now new x node rest first done puts n q =
+    puts n q
+    ∙ elim (same_name x n) as (λ b. same_name x n ≡ b → cond b (given (n ∷ q)) (get now (n ∷ q)) ≡ cond (is_some (find name_cmp n rest)) None (given (n ∷ q))) [
+      | true ↦ λ s. ap (λ o. cond (is_some o) None (given (n ∷ q))) (sym (ap (λ k. find name_cmp k rest) (sym (name_of_same x n s)) ∙ find_absent x rest first))
       | false ↦ λ s.
-          stays_there (is_front (n ∷ q) (x ∷ [])) node.changed (get now (n ∷ q)) (no_front n x q s)
-          ∙ done n q
-          ∙ elim (same_name n x) as (λ b. same_name n x ≡ b → cond (is_some (cond b (Some node) (find name_cmp n rest))) None (get m (folder ++ n ∷ q)) ≡ cond (is_some (find name_cmp n rest)) None (get m (folder ++ n ∷ q))) [
+          done n q
+          ∙ elim (same_name n x) as (λ b. same_name n x ≡ b → cond (is_some (cond b (Some node) (find name_cmp n rest))) None (given (n ∷ q)) ≡ cond (is_some (find name_cmp n rest)) None (given (n ∷ q))) [
             | true ↦ λ t. absurd (true≢false (sym (same_back n x t) ∙ s))
             | false ↦ λ _. refl
           ] refl
     ] refl
 
-first_found : (x : Name) (node : Node) (rest : List (Name × Node)) → find name_cmp x ((x, node) ∷ rest) ≡ Some node
+pub first_found : (x : Name) (node : Node) (rest : List (Name × Node)) → find name_cmp x ((x, node) ∷ rest) ≡ Some node
 first_found x node rest = ap (λ b. cond b (Some node) (find name_cmp x rest)) (same_name_itself x)
 
 -- the first child that is to come is there
-pub child_there : (m : PathMap) (folder : Path) (old now : PathMap) (all rest : List (Name × Node)) (x : Name) (node : Node) → IsGrafted m folder old now all → all ≡ (x, node) ∷ rest → get m (folder ++ x ∷ []) ≡ Some node
-child_there m folder old now all rest x node h e = h.known x node (ap (find name_cmp x) e ∙ first_found x node rest)
+pub child_there : (m : PathMap) (folder : Path) (given : Path → Option Node) (old now : PathMap) (all rest : List (Name × Node)) (x : Name) (node : Node) → IsGrafted m folder given old now all → all ≡ (x, node) ∷ rest → get m (folder ++ x ∷ []) ≡ Some node
+child_there m folder given old now all rest x node h e = h.known x node (ap (find name_cmp x) e ∙ first_found x node rest)
 
 -- one child more
-pub one_grafted : (m : PathMap) (folder : Path) (old now new : PathMap) (all rest : List (Name × Node)) (x : Name) (node : Node) → IsGrafted m folder old now all → all ≡ (x, node) ∷ rest → ((q : Path) → get new q ≡ copied (get now) (x ∷ []) (λ r. get m ((folder ++ x ∷ []) ++ r)) node.changed q) → IsGrafted m folder old new rest
-one_grafted m folder old now new all rest x node h e is =
-    let g : IsGrafted m folder old now ((x, node) ∷ rest) = subst (IsGrafted m folder old now) e h in
+pub one_grafted : (m : PathMap) (folder : Path) (given : Path → Option Node) (old now new : PathMap) (all rest : List (Name × Node)) (x : Name) (node : Node) → IsGrafted m folder given old now all → all ≡ (x, node) ∷ rest → option_map content (get new []) ≡ option_map content (get now []) → Puts given now new x → IsGrafted m folder given old new rest
+one_grafted m folder given old now new all rest x node h e root puts =
+    let g : IsGrafted m folder given old now ((x, node) ∷ rest) = subst (IsGrafted m folder given old now) e h in
     let b = both_true _ _ g.in_order in
     record {
-      root = ap (option_map content) (is []) ∙ content_there (is_front [] (x ∷ [])) node.changed (get now []) ∙ g.root;
-      done = grafted_below m folder now new x node rest (child_there m folder old now all rest x node h e) b.0 g.done is;
+      root = root ∙ g.root;
+      done = grafted_below given now new x node rest b.0 g.done puts;
       in_order = b.1;
       known = λ n y f. g.known n y (later n y f b.0);
     }
@@ -172,14 +186,12 @@ one_grafted m folder old now new all rest x node h e is =
         none_some : (node y : Node) → None ≡ Some y → Some node ≡ Some y
         none_some node y e = cc
 
--- all of them, and the folder's own number
-pub all_grafted : (m : PathMap) (folder : Path) (old new last : PathMap) (node : Node) → get m folder ≡ Some node → ((q : Path) → get old q ≡ alone node q) → IsGrafted m folder old new [] → ((q : Path) → get last q ≡ marked (get new) [] node.changed q) → (q : Path) → get last q ≡ get m (folder ++ q)
-all_grafted m folder old new last node there blank h is [] = is [] ∙ root_again (get new []) (h.root ∙ ap (option_map content) (blank [])) ∙ sym (ap (get m) (append-nil folder) ∙ there)
-  where
-    root_again : (o : Option Node) → option_map content o ≡ Some (content node) → option_map (λ y. cond true (with_number node.changed y) y) o ≡ Some node
-    root_again None e = cc
-    root_again (Some y) e = let c : content y ≡ content node = cc in λ i. Some (record { text = (c i).text; props = (c i).props; changed = node.changed })
-all_grafted m folder old new last node there blank h is (n ∷ q) = is (n ∷ q) ∙ stays_there (is_front (n ∷ q) []) node.changed (get new (n ∷ q)) refl ∙ h.done n q
+-- the same of a child that is grafted
+pub one_copied : (m : PathMap) (folder : Path) (old now new : PathMap) (all rest : List (Name × Node)) (x : Name) (node : Node) → IsGrafted m folder (in_folder m folder) old now all → all ≡ (x, node) ∷ rest → ((q : Path) → get new q ≡ copied (get now) (x ∷ []) (λ r. get m ((folder ++ x ∷ []) ++ r)) node.changed q) → IsGrafted m folder (in_folder m folder) old new rest
+one_copied m folder old now new all rest x node h e is =
+    one_grafted m folder (in_folder m folder) old now new all rest x node h e
+    (ap (option_map content) (is []) ∙ content_there (is_front [] (x ∷ [])) node.changed (get now []))
+    (puts_copied m folder now new x node (child_there m folder (in_folder m folder) old now all rest x node h e) is)
 
 -- what is below a folder fits without the folder
 fits_tail : (p q : Path) → fits (p ++ q) ≡ true → fits q ≡ true
@@ -198,7 +210,7 @@ fits_tail p q e =
     both_and : (a b : Bool) → a ≡ true → b ≡ true → (a && b) ≡ true
     both_and a b p q = cc
 
-no_any : (P : Path → Bool) (ks : List Path) → ((k : Path) → list_any (same_path k) ks ≡ true → P k ≡ false) → list_any P ks ≡ false
+pub no_any : (P : Path → Bool) (ks : List Path) → ((k : Path) → list_any (same_path k) ks ≡ true → P k ≡ false) → list_any P ks ≡ false
 no_any P [] h = refl
 no_any P (k ∷ ks) h = both_false _ _ (h k (ap (λ b. b || list_any (same_path k) ks) (same_path_itself k))) (no_any P ks (λ j m. h j (later (same_path j k) _ m)))
   where

@@ -1,6 +1,9 @@
 pub mod Applies
+pub mod Copied
 pub mod Grafts
+pub mod Limits
 pub mod Merges
 pub mod SameParts
 pub mod Shallow
+pub mod Taken
 pub mod Tells

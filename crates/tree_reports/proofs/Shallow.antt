@@ -95,7 +95,7 @@ sorted_within d m = sorted_filter (is_listed d) (entries m) (entries_sorted m)
 pub find_within : (d : Depth) (m : PathMap) (q : Path) → find path_cmp q (filter (is_listed d) (entries m)) ≡ within d (get m) q
 find_within d m q = find-filter (is_listed d) q (entries m) (entries_sorted m) ∙ ap (option_and_then (λ x. cond (is_within d q x) (Some x) None)) (sym (get-entries m q))
 
-some_of_within : (d : Depth) (q : Path) (o : Option Node) → IsSome (option_and_then (λ x. cond (is_within d q x) (Some x) None) o) → IsSome o
+pub some_of_within : (d : Depth) (q : Path) (o : Option Node) → IsSome (option_and_then (λ x. cond (is_within d q x) (Some x) None) o) → IsSome o
 some_of_within d q None s = s
 some_of_within d q (Some x) s = refl
 
@@ -119,7 +119,7 @@ fronts_within Files f h (m ∷ p) n some = absurd (never Files (m ∷ p ++ n ∷
 fronts_within Immediates f h (m ∷ p) n some = absurd (never Immediates (m ∷ p ++ n ∷ []) (f (m ∷ p ++ n ∷ [])) (further Immediates m p n) some)
 fronts_within Infinity f h (m ∷ p) n some = dir_within Infinity (m ∷ p) (f (m ∷ p)) (all_within (m ∷ p)) (h (m ∷ p) n (some_of_within Infinity (m ∷ p ++ n ∷ []) (f (m ∷ p ++ n ∷ [])) some))
 
-whole : (g : Path → Option Node) (q : Path) → g q ≡ within Infinity g q
+pub whole : (g : Path → Option Node) (q : Path) → g q ≡ within Infinity g q
 whole g q = elim (g q) as (λ o. o ≡ option_and_then (λ x. cond (is_within Infinity q x) (Some x) None) o) [ None ↦ refl | Some x ↦ ap (λ t. cond t (Some x) None) (sym (all_within q x)) ]
 
 above_shallow : (d : Depth) (f g : Path → Option Node) (q : Path) → goes_below d ≡ false → IsSome (within d f q) → is_some (blocked g q) ≡ is_some (blocked (within d g) q)

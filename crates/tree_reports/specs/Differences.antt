@@ -1,5 +1,5 @@
 -- What makes one tree of another, path by path. The nodes' numbers don't count.
-use Rattle.std.specs.Prelude.{◌≡◌, Bool, true, false, T, not, ◌&&◌, List, [], ◌∷◌, map, Option, Some, None, is_some, if◌then◌else◌, nat_eq}
+use Rattle.std.specs.Prelude.{◌≡◌, Bool, true, false, T, not, ◌&&◌, ◌||◌, List, [], ◌∷◌, map, Option, Some, None, is_some, is_none, if◌then◌else◌, nat_eq}
 use Rattle.std.specs.Cmp.Lexicographic.{pointwise}
 use Rattle.std.specs.FinMap as finite
 use Rattle.std.specs.FinMap.{is_sorted, find}
@@ -40,33 +40,37 @@ are_same_props a b = are_same_entries (finite.entries a) (finite.entries b)
 abbrev pub parts_of : Node → Node → Parts
 parts_of x y = record { props = not (are_same_props x.props y.props); text = not (is_same_text x.text y.text) }
 
--- a node in the place of one of the same kind
-abbrev pub told_same_kind : Node → Parts → Option Told
-told_same_kind y parts = if not parts.props && not parts.text then None else Some (Changed y parts)
+-- a node in the place of one of the same kind, by whether folders are told though nothing differs in them
+abbrev pub told_same_kind : Bool → Node → Parts → Option Told
+told_same_kind opens y parts = if parts.props || parts.text || (opens && is_none y.text) then Some (Changed y parts) else None
 
 -- whether the one is a file and the other a directory
 abbrev pub are_other_kinds : Bool → Bool → Bool
 are_other_kinds true b = not b
 are_other_kinds false b = b
 
-abbrev pub told_both : Node → Node → Option Told
-told_both x y = if are_other_kinds (is_some x.text) (is_some y.text) then Some (Replaced y) else told_same_kind y (parts_of x y)
+abbrev pub told_both : Bool → Node → Node → Option Told
+told_both opens x y = if are_other_kinds (is_some x.text) (is_some y.text) then Some (Replaced y) else told_same_kind opens y (parts_of x y)
+
+-- what is told of a path at which nothing is any more, by what stood there and whether what is above it goes too
+abbrev pub told_gone : Option Node → Bool → Option Told
+told_gone None above = None
+told_gone (Some x) above = if above then None else Some Removed
 
 -- what is told of a path by what stood there, what stands there, and whether what is above it goes too
-abbrev pub told : Option Node → Option Node → Bool → Option Told
-told None None above = None
-told None (Some y) above = Some (Added y)
-told (Some x) None above = if above then None else Some Removed
-told (Some x) (Some y) above = told_both x y
+abbrev pub told : Bool → Option Node → Option Node → Bool → Option Told
+told opens x None above = told_gone x above
+told opens None (Some y) above = Some (Added y)
+told opens (Some x) (Some y) above = told_both opens x y
 
 -- the same in two trees: what is above a path goes where it is no directory any more
-abbrev pub told_at : (Path → Option Node) → (Path → Option Node) → Path → Option Told
-told_at f g p = told (f p) (g p) (is_some (blocked g p))
+abbrev pub told_at : Bool → (Path → Option Node) → (Path → Option Node) → Path → Option Told
+told_at opens f g p = told opens (f p) (g p) (is_some (blocked g p))
 
 -- the paths of which something is told, each once, in path order
-pub record AreDifferences (f g : Path → Option Node) (es : List (Path × Told)) : Type 0 where
+pub record AreDifferences (opens : Bool) (f g : Path → Option Node) (es : List (Path × Told)) : Type 0 where
   pub in_order : T (is_sorted path_cmp es)
-  pub each : (p : Path) → find path_cmp p es ≡ told_at f g p
+  pub each : (p : Path) → find path_cmp p es ≡ told_at opens f g p
 
 -- changes without where their nodes lie in memory
 abbrev pub told_of : Change → Told

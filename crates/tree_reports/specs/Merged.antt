@@ -38,9 +38,9 @@ if_told p None = []
 if_told p (Some t) = (p, t) ∷ []
 
 -- what is told of each, by whether what is above it goes
-abbrev pub telling : (Path → Bool) → List (Path × Both) → List (Path × Told)
-telling above [] = []
-telling above (e ∷ es) = if_told e.0 (told e.1.old e.1.new (above e.0)) ++ telling above es
+abbrev pub telling : Bool → (Path → Bool) → List (Path × Both) → List (Path × Told)
+telling opens above [] = []
+telling opens above (e ∷ es) = if_told e.0 (told opens e.1.old e.1.new (above e.0)) ++ telling opens above es
 
 -- a pair without where its nodes lie in memory
 abbrev pub both_of : Pair → Both

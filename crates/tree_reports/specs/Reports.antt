@@ -9,6 +9,8 @@ use Rattle.path_tree.specs.Copies.{copy_too_long}
 use Rattle.tree_reports.specs.declared.error.ReportError.{ReportError}
 use Rattle.tree_reports.specs.declared.error.ReportError.TheVariants.{Root, NoFolder, NotThere, TooLong, OutOfMemory}
 use Rattle.tree_reports.specs.Applied.{Content, content}
+use Rattle.tree_reports.specs.Depths.{within}
+use Rattle.tree_reports.specs.declared.depth.Depth.{Depth}
 
 -- what stands at a path, apart from its number
 abbrev pub content_at : PathMap → Path → Option Content
@@ -29,6 +31,10 @@ brought false m source r = content_at m (source ++ r)
 brought true m source [] = option_map emptied (finite.get m source)
 brought true m source (n ∷ r) = None
 
+-- what stands at a source and below it, looked at so deep
+abbrev pub brought_within : Depth → PathMap → Path → Path → Option Content
+brought_within d m source r = option_map content (within d (λ q. finite.get m (source ++ q)) r)
+
 abbrev pub due : Bool → ReportError → Option ReportError
 due b e = if b then Some e else None
 
@@ -39,6 +45,10 @@ report_fault m p from source empty =
     option_or (due (same_path p []) Root)
     (option_or (option_map (λ _. NoFolder) (blocked (finite.get m) p))
     (option_or (due (is_none (finite.get from source)) NotThere) (due (not empty && copy_too_long from source p) TooLong)))
+
+-- why a path isn't left out: it is the root; what is above it was reported as no folder
+abbrev pub leave_fault : PathMap → Path → Option ReportError
+leave_fault m p = option_or (due (same_path p []) Root) (option_map (λ _. NoFolder) (blocked (finite.get m) p))
 
 -- a fault is what is answered, and without one a refusal is want of memory
 abbrev pub Answers : Option ReportError → Result (Unit {0}) ReportError → Type 0

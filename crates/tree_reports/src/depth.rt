@@ -53,7 +53,7 @@ fn list_root<'a>(alloc: Global, tree: &'a Tree) -> Result<Vec<Entry<'a>>, AllocE
 }
 
 // Whether a node right below the root is looked at.
-fn takes_child(depth: Depth, node: &Node) -> bool
+pub(crate) fn takes_child(depth: Depth, node: &Node) -> bool
     ensures { result ≡ takes_child depth node.now }
 {
     match depth {

@@ -5,7 +5,7 @@ ghost use Rattle.node_base.specs.Limits.{fits};
 ghost use Rattle.node_base.specs.Path.{Name, Path};
 ghost use Rattle.node_base.specs.Tree.{IsDirAt, alone};
 ghost use Rattle.path_tree.specs.Calls.{copied};
-ghost use Rattle.tree_reports.specs.Folders.{IsGrafted};
+ghost use Rattle.tree_reports.specs.Folders.{IsGrafted, in_folder};
 
 use node_base::{Node, NodeName, NodePath, PathFault, RevNo};
 use path_tree::{ChildNode, Tree};
@@ -27,7 +27,7 @@ pub fn subtree(alloc: Global, tree: &Tree, folder: &NodePath) -> Result<Tree, Al
 }
 
 // A folder's node alone.
-fn root_like(alloc: Global, node: &Node) -> Result<Tree, AllocError>
+pub(crate) fn root_like(alloc: Global, node: &Node) -> Result<Tree, AllocError>
     requires { IsNone node.now.text }
     ensures { IfOk result (λ t. (q : Path) → map.get t q ≡ alone node.now q) }
 {
@@ -44,7 +44,7 @@ fn graft_children(
     folder: &NodePath,
 ) -> Result<(), AllocError>
     requires { (n : Name) (q : Path) → map.get top.old (n ∷ q) ≡ None }
-    ensures { OnOk result (IsGrafted tree.now folder.now top.old top.new []) }
+    ensures { OnOk result (IsGrafted tree.now folder.now (in_folder tree.now folder.now) top.old top.new []) }
 {
     tree.is_tree();
     let mut children = tree.children(alloc, folder.names())?;
@@ -78,7 +78,11 @@ fn graft_child(
 
 // The path of a name right below one.
 #[tactic(auto, unfolding(node_base::specs::PathText::child_of))]
-fn child_path(alloc: Global, above: &NodePath, name: &NodeName) -> Result<NodePath, AllocError>
+pub(crate) fn child_path(
+    alloc: Global,
+    above: &NodePath,
+    name: &NodeName,
+) -> Result<NodePath, AllocError>
     requires { fits (above.now ++ name.now ∷ []) ≡ true }
     ensures { IfOk result (λ p. p ≡ above.now ++ name.now ∷ []) }
 {

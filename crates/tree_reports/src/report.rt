@@ -1,14 +1,17 @@
 //! The tree that a working copy has, report by report.
 ghost use Rattle.std.specs.Prelude.{◌≡◌, [], true, false, None, IfOk, OnOk, OnErr, IsSome};
+ghost use Rattle.std.specs.Option.{option_map};
 ghost use Rattle.std.specs.FinMap as map;
 ghost use Rattle.node_base.specs.Path.{Path, same_path};
 ghost use Rattle.node_base.specs.Tree.{alone, blocked, new_dir};
 ghost use Rattle.path_tree.specs.Copies.{copy_too_long};
 ghost use Rattle.tree_reports.specs.declared.error.ReportError.TheVariants.{Root};
 ghost use Rattle.tree_reports.specs.Applied.{content};
-ghost use Rattle.tree_reports.specs.Reports.{Answers, brought, content_at, due, emptied, placed, report_fault};
+ghost use Rattle.tree_reports.specs.Reports.{Answers, brought, brought_within, content_at, due, emptied, leave_fault, placed, report_fault};
 
+use crate::depth::Depth;
 use crate::error::ReportError;
+use crate::limit::limited;
 use node_base::{Node, NodePath, RevNo};
 use path_tree::Tree;
 use std::alloc::{AllocError, Global};
@@ -83,6 +86,40 @@ impl Report {
         Ok(self.graft(alloc, path, from, source)?)
     }
 
+    /// The same of a path that is looked at so deep.
+    pub fn set_path_within(
+        &mut self,
+        alloc: Global,
+        path: &NodePath,
+        from: &Tree,
+        source: &NodePath,
+        depth: Depth,
+    ) -> Result<(), ReportError>
+        ensures answer { Answers (report_fault self.old path.now from.now source.now false) result }
+        ensures ok { OnOk result ((q : Path) → content_at self.new q
+            ≡ placed (content_at self.old) path.now (brought_within depth from.now source.now) q) }
+        ensures err { OnErr result (self.new ≡ self.old) }
+    {
+        if let Some(fault) = self.fault(path, from, source, false) {
+            return Err(fault);
+        }
+        Ok(self.graft_within(alloc, path, from, source, depth)?)
+    }
+
+    /// Reports that the working copy leaves a path out: a bare folder stands there. Refused: the root, then a path
+    /// above which no folder was reported.
+    pub fn leave_out(&mut self, alloc: Global, path: &NodePath) -> Result<(), ReportError>
+        ensures answer { Answers (leave_fault self.old path.now) result }
+        ensures ok { OnOk result ((q : Path) → content_at self.new q
+            ≡ placed (content_at self.old) path.now (λ r. option_map content (alone new_dir r)) q) }
+        ensures err { OnErr result (self.new ≡ self.old) }
+    {
+        if let Some(fault) = self.place_fault(path) {
+            return Err(fault);
+        }
+        Ok(self.put_bare(alloc, path)?)
+    }
+
     /// Reports that the working copy has nothing at a path. Refused: the root.
     pub fn delete_path(&mut self, alloc: Global, path: &NodePath) -> Result<(), ReportError>
         ensures answer { Answers (due (same_path path.now []) Root) result }
@@ -105,17 +142,27 @@ impl Report {
     ) -> Option<ReportError>
         ensures { result ≡ report_fault self.now path.now from.now source.now empty }
     {
-        if path.is_root() {
-            return Some(ReportError::Root);
-        }
-        if self.tree.blocked(path.names()).is_some() {
-            return Some(ReportError::NoFolder);
+        if let Some(fault) = self.place_fault(path) {
+            return Some(fault);
         }
         if from.get(source.names()).is_none() {
             return Some(ReportError::NotThere);
         }
         if !empty && from.copy_is_too_long(source.names(), path.names()) {
             return Some(ReportError::TooLong);
+        }
+        None
+    }
+
+    // Why nothing is put at a path.
+    fn place_fault(&self, path: &NodePath) -> Option<ReportError>
+        ensures { result ≡ leave_fault self.now path.now }
+    {
+        if path.is_root() {
+            return Some(ReportError::Root);
+        }
+        if self.tree.blocked(path.names()).is_some() {
+            return Some(ReportError::NoFolder);
         }
         None
     }
@@ -143,6 +190,37 @@ impl Report {
             .graft_copy(alloc, path, from, source.names(), node.changed)
     }
 
+    // Puts what is looked at of the source and of what is below it.
+    fn graft_within(
+        &mut self,
+        alloc: Global,
+        path: &NodePath,
+        from: &Tree,
+        source: &NodePath,
+        depth: Depth,
+    ) -> Result<(), AllocError>
+        requires below_root { same_path path.now [] ≡ false }
+        requires not_blocked { blocked (map.get self.old) path.now ≡ None }
+        requires there { IsSome (map.get from.now source.now) }
+        requires small { copy_too_long from.now source.now path.now ≡ false }
+        ensures ok { OnOk result ((q : Path) → content_at self.new q
+            ≡ placed (content_at self.old) path.now (brought_within depth from.now source.now) q) }
+        ensures err { OnErr result (self.new ≡ self.old) }
+    {
+        if depth == Depth::Infinity {
+            return self.graft(alloc, path, from, source);
+        }
+        let Some(node) = from.get(source.names()) else {
+            unreachable!()
+        };
+        if node.text.is_some() {
+            from.is_tree();
+            return self.graft(alloc, path, from, source);
+        }
+        let taken = limited(alloc, from, source, depth)?;
+        self.graft(alloc, path, &taken, &NodePath::root(alloc))
+    }
+
     // Puts the source's node, emptied.
     fn put_emptied(
         &mut self,
@@ -163,6 +241,17 @@ impl Report {
         };
         let node = emptied(node)?;
         self.tree.put_node(alloc, path, node)
+    }
+
+    // Puts a bare folder.
+    fn put_bare(&mut self, alloc: Global, path: &NodePath) -> Result<(), AllocError>
+        requires below_root { same_path path.now [] ≡ false }
+        requires not_blocked { blocked (map.get self.old) path.now ≡ None }
+        ensures ok { OnOk result ((q : Path) → content_at self.new q
+            ≡ placed (content_at self.old) path.now (λ r. option_map content (alone new_dir r)) q) }
+        ensures err { OnErr result (self.new ≡ self.old) }
+    {
+        self.tree.put_node(alloc, path, Node::new_dir())
     }
 
     fn prune(&mut self, alloc: Global, path: &NodePath) -> Result<(), AllocError>

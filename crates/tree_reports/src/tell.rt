@@ -7,7 +7,7 @@ ghost use Rattle.node_base.specs.Tree.{blocked};
 ghost use Rattle.path_tree.specs.Listed.{shown_names};
 ghost use Rattle.tree_reports.specs.Applied.{Make};
 ghost use Rattle.tree_reports.specs.Depths.{is_listed, within};
-ghost use Rattle.tree_reports.specs.Differences.{AreDifferences, is_same_text, parts_of, told, told_both, told_of, shown};
+ghost use Rattle.tree_reports.specs.Differences.{AreDifferences, is_same_text, parts_of, told, told_both, told_gone, told_of, shown};
 ghost use Rattle.tree_reports.specs.Merged.{if_told, merged, telling, shown_option, both_of};
 
 use crate::depth::{Depth, list_within};
@@ -19,15 +19,17 @@ use std::alloc::{AllocError, Global};
 
 /// What makes the new tree of the old one, both looked at so deep: the paths at which they differ, in path order, each
 /// once. The nodes' numbers don't count. Below a path that goes, or whose node is of the other kind now, nothing is
-/// told to go, and all that is new is told to come. Both listings are gone through once, and of each path that is
-/// there no more the new tree is asked what is above it.
+/// told to go, and all that is new is told to come. Where it `opens` folders, one that is in both trees is told though
+/// nothing differs in it: what a client does to it then, as setting its depth, is its own. Both listings are gone
+/// through once, and of each path that is there no more the new tree is asked what is above it.
 pub fn differences<'a>(
     alloc: Global,
     old: &'a Tree,
     new: &'a Tree,
     depth: Depth,
+    opens: bool,
 ) -> Result<Vec<Difference<'a>>, AllocError>
-    ensures told { IfOk result (λ ds. AreDifferences (within depth (map.get old.now))
+    ensures told { IfOk result (λ ds. AreDifferences opens (within depth (map.get old.now))
         (within depth (map.get new.now)) (shown ds.items)) }
     // after them the old tree has at each path what the new one has
     ensures make { IfOk result (λ ds. Make (shown ds.items) (within depth (map.get old.now))
@@ -35,7 +37,7 @@ pub fn differences<'a>(
 {
     old.is_tree();
     new.is_tree();
-    list_differences(alloc, old, new, depth)
+    list_differences(alloc, old, new, depth, opens)
 }
 
 // The same list, by the two listings.
@@ -44,8 +46,9 @@ fn list_differences<'a>(
     old: &'a Tree,
     new: &'a Tree,
     depth: Depth,
+    opens: bool,
 ) -> Result<Vec<Difference<'a>>, AllocError>
-    ensures { IfOk result (λ ds. shown ds.items ≡ telling (λ p. is_some (blocked (map.get new.now) p))
+    ensures { IfOk result (λ ds. shown ds.items ≡ telling opens (λ p. is_some (blocked (map.get new.now) p))
         (merged (filter (is_listed depth) (map.entries old.now)) (filter (is_listed depth) (map.entries new.now)))) }
 {
     let before = list_within(alloc, old, depth)?;
@@ -57,7 +60,7 @@ fn list_differences<'a>(
     let mut found = Vec::new(alloc);
     while let Some((pair, rest)) = merge.next() {
         merge = rest;
-        if let Some(difference) = difference_at(alloc, new, &pair)? {
+        if let Some(difference) = difference_at(alloc, new, &pair, opens)? {
             found.push(difference)?;
         }
     }
@@ -69,12 +72,13 @@ fn difference_at<'a>(
     alloc: Global,
     new: &Tree,
     pair: &Pair<'_, 'a>,
+    opens: bool,
 ) -> Result<Option<Difference<'a>>, AllocError>
     ensures { IfOk result (λ d. shown_option d ≡ if_told (shown_names pair.now.path.now)
-        (told (both_of pair.now).old (both_of pair.now).new
+        (told opens (both_of pair.now).old (both_of pair.now).new
         (is_some (blocked (map.get new.now) (shown_names pair.now.path.now))))) }
 {
-    let Some(change) = change_at(alloc, new, pair)? else {
+    let Some(change) = change_at(alloc, new, pair, opens)? else {
         return Ok(None);
     };
     let path = pair.path.to_vec(alloc)?;
@@ -85,16 +89,17 @@ fn change_at<'a>(
     alloc: Global,
     new: &Tree,
     pair: &Pair<'_, 'a>,
+    opens: bool,
 ) -> Result<Option<Change<'a>>, AllocError>
     ensures { IfOk result (λ c. option_map told_of c ≡
-        told (both_of pair.now).old (both_of pair.now).new
+        told opens (both_of pair.now).old (both_of pair.now).new
         (is_some (blocked (map.get new.now) (shown_names pair.now.path.now)))) }
 {
     let Some(node) = pair.new else {
         return gone(alloc, new, pair);
     };
     match pair.old {
-        Some(old) => Ok(change_of(old, node)),
+        Some(old) => Ok(change_of(old, node, opens)),
         None => Ok(Some(Change::Added(node))),
     }
 }
@@ -105,7 +110,7 @@ fn gone<'a>(
     new: &Tree,
     pair: &Pair<'_, 'a>,
 ) -> Result<Option<Change<'a>>, AllocError>
-    ensures { IfOk result (λ c. option_map told_of c ≡ told (both_of pair.now).old None
+    ensures { IfOk result (λ c. option_map told_of c ≡ told_gone (both_of pair.now).old
         (is_some (blocked (map.get new.now) (shown_names pair.now.path.now)))) }
 {
     if pair.old.is_none() || is_below_gone(alloc, new, pair.path)? {
@@ -126,14 +131,14 @@ fn is_below_gone(alloc: Global, tree: &Tree, path: &[&NodeName]) -> Result<bool,
 }
 
 // What is told of a node in the place of another.
-fn change_of<'a>(old: &Node, new: &'a Node) -> Option<Change<'a>>
-    ensures { option_map told_of result ≡ told_both old.now new.now }
+fn change_of<'a>(old: &Node, new: &'a Node, opens: bool) -> Option<Change<'a>>
+    ensures { option_map told_of result ≡ told_both opens old.now new.now }
 {
     if old.text.is_some() != new.text.is_some() {
         return Some(Change::Replaced(new));
     }
     let parts = parts_of(old, new);
-    if parts.props || parts.text {
+    if parts.props || parts.text || (opens && new.text.is_none()) {
         return Some(Change::Changed(new, parts));
     }
     None

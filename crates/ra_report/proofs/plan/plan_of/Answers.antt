@@ -10,7 +10,7 @@ use Rattle.ra_report.proofs.plan.plan_of.Goals as goal
 
 pub returns-in-Ok-clause-found : goal.returns-in-Ok-clause-found
 returns-in-Ok-clause-found g c = λ x e.
-    plan_ordered x (place_as c.args.place.now) (ask_as c.args.command.now) (map report_as c.args.report.now) c.in-Ok.order _ _ c.plan_for.result c.in-Ok.ensures.0 c.in-Ok.ensures.1 (c.plan_for.ensures.found x e)
+    plan_ordered x (place_as c.args.place.now) (ask_as c.args.command.now) (map report_as c.args.report.now) c.in-Ok.order _ _ c.plan_by.result c.in-Ok.ensures.0 c.in-Ok.ensures.1 (c.plan_by.ensures.found x e)
 
 pub returns-in-Err-clause-found : goal.returns-in-Err-clause-found
 returns-in-Err-clause-found g c = λ x e.

@@ -7,9 +7,9 @@ use Rattle.ra_report.proofs.take.bring_from.Goals as goal
 
 pub returns-in-Ok : goal.returns-in-Ok
 returns-in-Ok c =
-    (taken_none c.args.report.now c.args.path.now c.args.tree.now c.args.source.now c.args.empty _ c.in-Ok.ensures.answer, c.in-Ok.ensures.ok)
+    (taken_none c.args.report.now c.args.path.now c.args.tree.now c.args.source.now c.args.shown _ c.in-Ok.ensures.answer, c.in-Ok.ensures.ok)
 
 pub returns-in-Err : goal.returns-in-Err
 returns-in-Err c =
-    subst (λ s. Denies (placing_denied (content_at c.args.report.now) c.args.path.now c.args.tree.now c.args.source.now c.args.empty) s) (sym c.stop_of.ensures)
-    (taken_denies c.args.report.now c.args.path.now c.args.tree.now c.args.source.now c.args.empty c.in-Err.error c.in-Err.ensures.answer)
+    subst (λ s. Denies (placing_denied (content_at c.args.report.now) c.args.path.now c.args.tree.now c.args.source.now c.args.shown) s) (sym c.stop_of.ensures)
+    (taken_denies c.args.report.now c.args.path.now c.args.tree.now c.args.source.now c.args.shown c.in-Err.error c.in-Err.ensures.answer)

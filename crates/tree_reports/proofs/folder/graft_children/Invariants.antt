@@ -1,9 +1,9 @@
 use Rattle.std.proofs.Common.{length}
-use Rattle.tree_reports.specs.Folders.{IsGrafted}
+use Rattle.tree_reports.specs.Folders.{IsGrafted, in_folder}
 use Rattle.tree_reports.proofs.folder.graft_children.Given as goal
 
 abbrev pub invariant-loop-children : goal.invariant-loop-children
-invariant-loop-children l = IsGrafted l.tree l.folder l.initial.top l.top l.children
+invariant-loop-children l = IsGrafted l.tree l.folder (in_folder l.tree l.folder) l.initial.top l.top l.children
 
 abbrev pub decreases-loop-children : goal.decreases-loop-children
 decreases-loop-children l = length l.children

@@ -1,4 +1,4 @@
-use Rattle.std.proofs.Common.{Ok, Err, IfOk, ◌≡◌, List, sym, subst, is_some}
+use Rattle.std.proofs.Common.{Ok, Err, IfOk, ◌≡◌, Bool, List, sym, subst, is_some}
 use Rattle.std.specs.List.{filter}
 use Rattle.std.specs.FinMap.{get, entries}
 use Rattle.node_base.specs.Path.{Path}
@@ -14,25 +14,26 @@ use Rattle.tree_reports.proofs.Tells.{are_differences}
 use Rattle.tree_reports.proofs.tell.differences.Goals as goal
 
 -- what is told of two listings
-abbrev listed : PathMap → PathMap → Depth → List (Path × Told)
-listed old new d = telling (λ p. is_some (blocked (get new) p)) (merged (filter (is_listed d) (entries old)) (filter (is_listed d) (entries new)))
+abbrev listed : Bool → PathMap → PathMap → Depth → List (Path × Told)
+listed opens old new d = telling opens (λ p. is_some (blocked (get new) p)) (merged (filter (is_listed d) (entries old)) (filter (is_listed d) (entries new)))
 
-listed_differences : (old new : PathMap) (d : Depth) → AreDifferences (within d (get old)) (within d (get new)) (listed old new d)
-listed_differences old new d =
-    are_differences (within d (get old)) (within d (get new)) (λ p. is_some (blocked (get new) p)) (filter (is_listed d) (entries old)) (filter (is_listed d) (entries new))
+listed_differences : (opens : Bool) (old new : PathMap) (d : Depth) → AreDifferences opens (within d (get old)) (within d (get new)) (listed opens old new d)
+listed_differences opens old new d =
+    are_differences opens (within d (get old)) (within d (get new)) (λ p. is_some (blocked (get new) p)) (filter (is_listed d) (entries old)) (filter (is_listed d) (entries new))
     (sorted_within d old) (sorted_within d new) (find_within d old) (find_within d new) (above_within d (get old) (get new))
 
-listed_make : (old new : PathMap) (d : Depth) → IsTree old → IsTree new → Make (listed old new d) (within d (get old)) (within d (get new))
-listed_make old new d s t =
-    differences_make (within d (get old)) (within d (get new)) (fronts_within d (get old) s.fronts) (fronts_within d (get new) t.fronts) (listed old new d) (listed_differences old new d)
+listed_make : (opens : Bool) (old new : PathMap) (d : Depth) → IsTree old → IsTree new → Make (listed opens old new d) (within d (get old)) (within d (get new))
+listed_make opens old new d s t =
+    differences_make opens (within d (get old)) (within d (get new)) (fronts_within d (get old) s.fronts) (fronts_within d (get new) t.fronts) (listed opens old new d) (listed_differences opens old new d)
 
 pub returns-clause-told : goal.returns-clause-told
 returns-clause-told c =
     let old = c.args.old.now in
     let new = c.args.new.now in
     let d = c.args.depth in
-    elim c.list_differences.result as (λ r. IfOk r (λ ds. shown ds.items ≡ listed old new d) → IfOk r (λ ds. AreDifferences (within d (get old)) (within d (get new)) (shown ds.items))) [
-      | Ok ds ↦ λ e. subst (AreDifferences (within d (get old)) (within d (get new))) (sym e) (listed_differences old new d)
+    let opens = c.args.opens in
+    elim c.list_differences.result as (λ r. IfOk r (λ ds. shown ds.items ≡ listed opens old new d) → IfOk r (λ ds. AreDifferences opens (within d (get old)) (within d (get new)) (shown ds.items))) [
+      | Ok ds ↦ λ e. subst (AreDifferences opens (within d (get old)) (within d (get new))) (sym e) (listed_differences opens old new d)
       | Err e ↦ λ h. h
     ] c.list_differences.ensures
 
@@ -41,7 +42,8 @@ returns-clause-make c =
     let old = c.args.old.now in
     let new = c.args.new.now in
     let d = c.args.depth in
-    elim c.list_differences.result as (λ r. IfOk r (λ ds. shown ds.items ≡ listed old new d) → IfOk r (λ ds. Make (shown ds.items) (within d (get old)) (within d (get new)))) [
-      | Ok ds ↦ λ e. subst (λ es. Make es (within d (get old)) (within d (get new))) (sym e) (listed_make old new d c.is_tree.ensures c.is_tree-2.ensures)
+    let opens = c.args.opens in
+    elim c.list_differences.result as (λ r. IfOk r (λ ds. shown ds.items ≡ listed opens old new d) → IfOk r (λ ds. Make (shown ds.items) (within d (get old)) (within d (get new)))) [
+      | Ok ds ↦ λ e. subst (λ es. Make es (within d (get old)) (within d (get new))) (sym e) (listed_make opens old new d c.is_tree.ensures c.is_tree-2.ensures)
       | Err e ↦ λ h. h
     ] c.list_differences.ensures

@@ -10,8 +10,8 @@ use Rattle.tree_reports.proofs.tell.list_differences.Given as goal
 
 abbrev pub invariant-loop-pair : goal.invariant-loop-pair
 invariant-loop-pair l =
-    telling (λ p. is_some (blocked (get l.new) p)) (merged (filter (is_listed l.fn.depth) (entries l.old)) (filter (is_listed l.fn.depth) (entries l.new)))
-    ≡ shown l.found.items ++ telling (λ p. is_some (blocked (get l.new) p)) (to_come l.merge)
+    telling l.fn.opens (λ p. is_some (blocked (get l.new) p)) (merged (filter (is_listed l.fn.depth) (entries l.old)) (filter (is_listed l.fn.depth) (entries l.new)))
+    ≡ shown l.found.items ++ telling l.fn.opens (λ p. is_some (blocked (get l.new) p)) (to_come l.merge)
 
 abbrev pub decreases-loop-pair : goal.decreases-loop-pair
 decreases-loop-pair l = length l.merge.before.now + length l.merge.after.now

@@ -1,0 +1,7 @@
+use Rattle.std.proofs.Common.{refl, ◌∙◌}
+use Rattle.ra_report.proofs.Trims.{trim_has}
+use Rattle.ra_report.proofs.trim.trim_copy.Goals as goal
+
+pub returns : goal.returns
+returns c =
+    (refl, refl, trim_has c.args.wanted c.args.target.now c.args.copy.report c.in_ok-share.field-0 c.in_ok-tree.tree c.begin.result (c.in_ok-share.ensures ∙ c.tree.ensures) c.begin.ensures c.in_ok-tree.ensures)

@@ -1,0 +1,89 @@
+-- What is wanted by a working copy that doesn't have all, and where a command wants a depth.
+use Rattle.std.specs.Prelude.{Bool, true, false, not, List, [], ◌∷◌, ◌++◌, map, Option, Some, None, is_some, if◌then◌else◌}
+use Rattle.std.specs.Option.{option_and_then}
+use Rattle.std.specs.List.{flat_map, list_any}
+use Rattle.node_base.specs.Path.{Path}
+use Rattle.node_base.specs.declared.node.Node.{Node}
+use Rattle.tree_reports.specs.Applied.{Content}
+use Rattle.tree_reports.specs.Depths.{goes_below}
+use Rattle.tree_reports.specs.Reports.{placed}
+use Rattle.tree_reports.specs.Sparse.{with_limit, with_limits}
+use Rattle.tree_reports.specs.declared.depth.Depth.{Depth}
+use Rattle.tree_reports.specs.declared.depth.Depth.TheVariants as depth
+use Rattle.tree_reports.specs.declared.sparse.Limit.{Limit}
+use Rattle.tree_reports.specs.declared.sparse.Part.{Part}
+use Rattle.tree_reports.specs.declared.sparse.Part.TheVariants as part
+use Rattle.browse_wire.specs.Reports.{Report, SetPath, DeletePath, LinkPath, FinishReport, AbortReport}
+use Rattle.ra_report.specs.Reports.{aimed, is_blocked}
+use Rattle.ra_report.specs.Shown.{Known, part_as}
+
+-- ---- what a report leaves out
+
+-- all of it is there
+abbrev pub is_whole : Part → Bool
+is_whole (part.Within d) = goes_below d
+is_whole part.LeftOut = false
+
+abbrev pub leaves_out : Report → Bool
+leaves_out (SetPath r) = not (is_whole (part_as r.depth))
+leaves_out (LinkPath r url) = not (is_whole (part_as r.depth))
+leaves_out (DeletePath p) = false
+leaves_out FinishReport = false
+leaves_out AbortReport = false
+
+-- where no depth is wanted, what is left out anywhere counts, and then how deep each path is; else what is left out whole
+abbrev pub counts : Option Depth → Bool → Part → Bool
+counts None sparse p = sparse
+counts (Some d) sparse (part.Within e) = false
+counts (Some d) sparse part.LeftOut = true
+
+abbrev pub limit_at : Option Depth → Bool → Path → Part → List Limit
+limit_at wanted sparse p q = if counts wanted sparse q then record { path = p; part = q } ∷ [] else []
+
+-- of a command
+abbrev pub limit_in : Option Depth → Bool → Report → List Limit
+limit_in wanted sparse (SetPath r) = limit_at wanted sparse r.path (part_as r.depth)
+limit_in wanted sparse (LinkPath r url) = limit_at wanted sparse r.path (part_as r.depth)
+limit_in wanted sparse (DeletePath p) = []
+limit_in wanted sparse FinishReport = []
+limit_in wanted sparse AbortReport = []
+
+abbrev pub limits_in : Option Depth → List Report → List Limit
+limits_in wanted cs = flat_map (limit_in wanted (list_any leaves_out cs)) cs
+
+-- ---- what is wanted
+
+-- the target is looked at as deep as a command wants
+abbrev pub within_wanted : Option Depth → Path → (Path → Option Node) → Path → Option Node
+within_wanted None t f = f
+within_wanted (Some d) t f = with_limit f f (record { path = t; part = part.Within d })
+
+-- of what stands there, so much as the working copy has, and of that as much as is wanted
+abbrev pub trimmed : Option Depth → Path → List Report → (Path → Option Node) → Path → Option Node
+trimmed wanted t cs f = within_wanted wanted t (with_limits f f (limits_in wanted (map (aimed t) cs)))
+
+-- folders in which nothing differs are opened too, where a depth is wanted of a working copy that doesn't have all: a client sets their depth then
+abbrev pub deepens : Option Depth → List Report → Bool
+deepens None cs = false
+deepens (Some d) cs = list_any leaves_out cs
+
+-- ---- what was reported, looked at as deep
+
+abbrev pub takes : Depth → Bool → Bool
+takes depth.Empty file = false
+takes depth.Files file = file
+takes depth.Immediates file = true
+takes depth.Infinity file = true
+
+abbrev pub is_seen : Depth → Path → Content → Bool
+is_seen d [] c = true
+is_seen d (n ∷ []) c = takes d (is_some c.text)
+is_seen d (n ∷ m ∷ p) c = goes_below d
+
+abbrev pub seen : Depth → Known → Known
+seen d k q = option_and_then (λ c. if is_seen d q c then Some c else None) (k q)
+
+-- at a target, which a directory is above
+abbrev pub seen_at : Option Depth → Path → Known → Known
+seen_at None t k = k
+seen_at (Some d) t k = if is_blocked k t then k else placed k t (seen d (λ q. k (t ++ q)))

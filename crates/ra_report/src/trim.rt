@@ -1,0 +1,275 @@
+//! What is wanted by a working copy that doesn't have all, and where a command wants a depth.
+
+ghost use Rattle.std.specs.Prelude.{◌≡◌, ◌++◌, map, None, IfOk, OnOk};
+ghost use Rattle.std.specs.FinMap as finite;
+ghost use Rattle.std.specs.List.{flat_map, list_any};
+ghost use Rattle.node_base.specs.Path.{Path};
+ghost use Rattle.tree_reports.specs.Reports.{content_at};
+ghost use Rattle.browse_wire.specs.Reports.{report_as};
+ghost use Rattle.ra_browse.specs.Tellings.{Decides};
+ghost use Rattle.ra_report.specs.Plans.{IsTrimmed, IsTrimmedBy};
+ghost use Rattle.ra_report.specs.Reports.{aims_denied};
+ghost use Rattle.ra_report.specs.Shown.{part_as};
+ghost use Rattle.ra_report.specs.Trimmed.{counts, deepens, is_whole, leaves_out, limit_at, limit_in, limits_in, seen_at, within_wanted};
+ghost use Rattle.tree_reports.specs.Sparse.{with_limits};
+
+use crate::aim::aimed_all;
+use crate::plan::{Plan, Wanted, WorkingCopy};
+use crate::shown::part_of;
+use browse_wire::report::{ReportCommand, Reported};
+use node_base::NodePath;
+use path_tree::Tree;
+use ra_browse::Stop;
+use std::alloc::{AllocError, Global};
+use tree_reports::{Depth, Limit, Part, Report, limit_all, limit_one};
+
+/// The plan with so much of what is wanted as a working copy has, and both sides looked at as deep as a command wants.
+pub fn trimmed(
+    alloc: Global,
+    plan: Plan,
+    target: &NodePath,
+    wanted: Option<Depth>,
+    report: &[ReportCommand],
+) -> Result<Plan, Stop>
+    ensures { Decides (aims_denied target.now (map report_as report.now))
+        (IsTrimmed wanted target.now (map report_as report.now) plan) result }
+{
+    match aimed_all(alloc, target, report) {
+        Ok(all) => trimmed_by(alloc, plan, target, wanted, all.as_slice()),
+        Err(stop) => Err(stop),
+    }
+}
+
+// The same of commands with their paths behind the target.
+fn trimmed_by(
+    alloc: Global,
+    plan: Plan,
+    target: &NodePath,
+    wanted: Option<Depth>,
+    report: &[ReportCommand],
+) -> Result<Plan, Stop>
+    ensures { Decides None (IsTrimmedBy wanted target.now (map report_as report.now) plan) result }
+{
+    match trim(alloc, plan, target, wanted, report) {
+        Ok(plan) => Ok(plan),
+        Err(_) => Err(Stop::OutOfMemory),
+    }
+}
+
+fn trim(
+    alloc: Global,
+    plan: Plan,
+    target: &NodePath,
+    wanted: Option<Depth>,
+    report: &[ReportCommand],
+) -> Result<Plan, AllocError>
+    ensures { IfOk result (IsTrimmedBy wanted target.now (map report_as report.now) plan) }
+{
+    let limits = limits_in(alloc, wanted, report)?;
+    let Plan {
+        wanted: all,
+        copy,
+        identity,
+        revisions,
+        tells_root,
+        opens: _,
+    } = plan;
+    Ok(Plan {
+        wanted: trim_wanted(alloc, all, target, wanted, limits.as_slice())?,
+        copy: trim_copy(alloc, copy, target, wanted)?,
+        identity,
+        revisions,
+        tells_root,
+        opens: deepens(wanted, report),
+    })
+}
+
+// What is wanted.
+fn trim_wanted(
+    alloc: Global,
+    all: Wanted,
+    target: &NodePath,
+    wanted: Option<Depth>,
+    limits: &[Limit],
+) -> Result<Wanted, AllocError>
+    ensures { IfOk result (λ w. (w.number ≡ all.number) × (w.whole ≡ all.whole) × ((q : Path) → finite.get w.tree q
+        ≡ within_wanted wanted target.now (with_limits (finite.get all.tree) (finite.get all.tree) limits.now) q)) }
+{
+    let Wanted {
+        number,
+        tree,
+        whole,
+    } = all;
+    let tree = limit_all(alloc, tree.share()?, &tree, limits)?;
+    Ok(Wanted {
+        number,
+        tree: looked_at(alloc, tree, target, wanted)?,
+        whole,
+    })
+}
+
+// What was reported.
+fn trim_copy(
+    alloc: Global,
+    copy: WorkingCopy,
+    target: &NodePath,
+    wanted: Option<Depth>,
+) -> Result<WorkingCopy, AllocError>
+    ensures { IfOk result (λ c. (c.base ≡ copy.base) × (c.switches.items ≡ copy.switches.items)
+        × ((q : Path) → content_at c.report q ≡ seen_at wanted target.now (content_at copy.report) q)) }
+{
+    let WorkingCopy {
+        report,
+        switches,
+        base,
+    } = copy;
+    let tree = looked_at(alloc, report.tree().share()?, target, wanted)?;
+    Ok(WorkingCopy {
+        report: Report::begin(tree),
+        switches,
+        base,
+    })
+}
+
+// The tree with its target looked at as deep as is wanted.
+fn looked_at(
+    alloc: Global,
+    tree: Tree,
+    target: &NodePath,
+    wanted: Option<Depth>,
+) -> Result<Tree, AllocError>
+    ensures { IfOk result (λ t. (q : Path) → finite.get t q ≡ within_wanted wanted target.now (finite.get tree) q) }
+{
+    let Some(depth) = wanted else {
+        return Ok(tree);
+    };
+    let path = target.copy(alloc)?;
+    let part = Part::Within(depth);
+    limit_one(alloc, tree.share()?, &tree, &Limit { path, part })
+}
+
+// ---- what a report leaves out
+
+// Whether a depth is wanted of a working copy that doesn't have all.
+fn deepens(wanted: Option<Depth>, report: &[ReportCommand]) -> bool
+    ensures { result ≡ deepens wanted (map report_as report.now) }
+{
+    match wanted {
+        None => false,
+        Some(_) => is_sparse(report),
+    }
+}
+
+// The limits of its paths that count.
+fn limits_in(
+    alloc: Global,
+    wanted: Option<Depth>,
+    report: &[ReportCommand],
+) -> Result<Vec<Limit>, AllocError>
+    ensures { IfOk result (λ v. v.items ≡ limits_in wanted (map report_as report.now)) }
+{
+    limits_by(alloc, wanted, is_sparse(report), report)
+}
+
+// The same where it is known whether the report leaves something out.
+fn limits_by(
+    alloc: Global,
+    wanted: Option<Depth>,
+    sparse: bool,
+    report: &[ReportCommand],
+) -> Result<Vec<Limit>, AllocError>
+    ensures { IfOk result (λ v. v.items ≡ flat_map (limit_in wanted sparse) (map report_as report.now)) }
+{
+    let mut all = Vec::new(alloc);
+    for command in report {
+        push_limit(alloc, wanted, sparse, command, &mut all)?;
+    }
+    Ok(all)
+}
+
+// Whether one of them leaves something out.
+fn is_sparse(report: &[ReportCommand]) -> bool
+    ensures { result ≡ list_any leaves_out (map report_as report.now) }
+{
+    for command in report {
+        if leaves_out(command) {
+            return true;
+        }
+    }
+    false
+}
+
+fn leaves_out(command: &ReportCommand) -> bool
+    ensures { result ≡ leaves_out (report_as command.now) }
+{
+    match command {
+        ReportCommand::SetPath(path) => !is_whole(part_of(path.depth)),
+        ReportCommand::LinkPath(path, _) => !is_whole(part_of(path.depth)),
+        ReportCommand::DeletePath(_) => false,
+        ReportCommand::FinishReport => false,
+        ReportCommand::AbortReport => false,
+    }
+}
+
+// Whether all of a path is there.
+fn is_whole(part: Part) -> bool
+    ensures { result ≡ is_whole part }
+{
+    match part {
+        Part::Within(Depth::Infinity) => true,
+        Part::Within(Depth::Empty) => false,
+        Part::Within(Depth::Files) => false,
+        Part::Within(Depth::Immediates) => false,
+        Part::LeftOut => false,
+    }
+}
+
+// Puts the limit of a command behind others, where it counts.
+fn push_limit(
+    alloc: Global,
+    wanted: Option<Depth>,
+    sparse: bool,
+    command: &ReportCommand,
+    all: &mut Vec<Limit>,
+) -> Result<(), AllocError>
+    ensures { OnOk result (all.new.items ≡ all.old.items ++ limit_in wanted sparse (report_as command.now)) }
+{
+    match command {
+        ReportCommand::SetPath(path) => push_of(alloc, wanted, sparse, path, all),
+        ReportCommand::LinkPath(path, _) => push_of(alloc, wanted, sparse, path, all),
+        ReportCommand::DeletePath(_) => Ok(()),
+        ReportCommand::FinishReport => Ok(()),
+        ReportCommand::AbortReport => Ok(()),
+    }
+}
+
+// The same of a reported path.
+fn push_of(
+    alloc: Global,
+    wanted: Option<Depth>,
+    sparse: bool,
+    path: &Reported,
+    all: &mut Vec<Limit>,
+) -> Result<(), AllocError>
+    ensures { OnOk result (all.new.items ≡ all.old.items ++ limit_at wanted sparse path.now.path (part_as path.now.depth)) }
+{
+    let part = part_of(path.depth);
+    if counts(wanted, sparse, part) {
+        let path = path.path.copy(alloc)?;
+        all.push(Limit { path, part })?;
+    }
+    Ok(())
+}
+
+// Whether so much of a path counts.
+fn counts(wanted: Option<Depth>, sparse: bool, part: Part) -> bool
+    ensures { result ≡ counts wanted sparse part }
+{
+    match wanted {
+        None => sparse,
+        Some(_) => match part {
+            Part::Within(_) => false,
+            Part::LeftOut => true,
+        },
+    }
+}

@@ -1,0 +1,91 @@
+//! A folder of a tree, looked at to a depth, as a tree of its own.
+ghost use Rattle.std.specs.Prelude.{◌≡◌, ◌++◌, ◌∷◌, [], false, None, IfOk, OnOk, if◌then◌else◌};
+ghost use Rattle.std.specs.FinMap as map;
+ghost use Rattle.node_base.specs.Path.{Name, Path};
+ghost use Rattle.node_base.specs.Tree.{IsDirAt};
+ghost use Rattle.path_tree.specs.Calls.{added};
+ghost use Rattle.tree_reports.specs.Depths.{goes_below, takes_child, within};
+ghost use Rattle.tree_reports.specs.Folders.{IsGrafted, in_folder};
+
+use crate::depth::{Depth, takes_child};
+use crate::folder::{child_path, root_like, subtree};
+use node_base::{Node, NodeName, NodePath};
+use path_tree::{ChildNode, Tree};
+use std::alloc::{AllocError, Global};
+
+/// What stands at a folder of a tree, looked at so deep, as a tree of its own, with the same numbers. Only the folder's
+/// children are gone through.
+pub fn limited(
+    alloc: Global,
+    tree: &Tree,
+    folder: &NodePath,
+    depth: Depth,
+) -> Result<Tree, AllocError>
+    requires { IsDirAt (map.get tree.now) folder.now }
+    ensures { IfOk result (λ t. (q : Path) → map.get t q
+        ≡ within depth (λ r. map.get tree.now (folder.now ++ r)) q) }
+{
+    match depth {
+        Depth::Infinity => subtree(alloc, tree, folder),
+        Depth::Empty => shallow(alloc, tree, folder, depth),
+        Depth::Files => shallow(alloc, tree, folder, depth),
+        Depth::Immediates => shallow(alloc, tree, folder, depth),
+    }
+}
+
+// The same where nothing below the folder's children is looked at.
+fn shallow(alloc: Global, tree: &Tree, folder: &NodePath, depth: Depth) -> Result<Tree, AllocError>
+    requires dir { IsDirAt (map.get tree.now) folder.now }
+    requires shallow { goes_below depth ≡ false }
+    ensures { IfOk result (λ t. (q : Path) → map.get t q ≡ within depth (in_folder tree.now folder.now) q) }
+{
+    let Some(node) = tree.get(folder.names()) else {
+        unreachable!()
+    };
+    let mut top = root_like(alloc, node)?;
+    put_children(alloc, &mut top, tree, folder, depth)?;
+    top.mark(alloc, &[], node.changed)?;
+    Ok(top)
+}
+
+// Puts what is looked at of a folder's children into a root without entries.
+fn put_children(
+    alloc: Global,
+    top: &mut Tree,
+    tree: &Tree,
+    folder: &NodePath,
+    depth: Depth,
+) -> Result<(), AllocError>
+    requires shallow { goes_below depth ≡ false }
+    requires blank { (n : Name) (q : Path) → map.get top.old (n ∷ q) ≡ None }
+    ensures { OnOk result (IsGrafted tree.now folder.now (within depth (in_folder tree.now folder.now))
+        top.old top.new []) }
+{
+    tree.is_tree();
+    let mut children = tree.children(alloc, folder.names())?;
+    while let Some(ChildNode { name, node }) = children.next()? {
+        put_child(alloc, top, name, node, depth)?;
+    }
+    Ok(())
+}
+
+// Puts one of them alone, where it is looked at.
+#[tactic(auto, using(crate::proofs::Grafts::fits_name, crate::proofs::Grafts::open_root))]
+fn put_child(
+    alloc: Global,
+    top: &mut Tree,
+    name: &NodeName,
+    node: &Node,
+    depth: Depth,
+) -> Result<(), AllocError>
+    ensures { OnOk result ((q : Path) → map.get top.new q ≡ (if takes_child depth node.now
+        then added (map.get top.old) (name.now ∷ []) node.now q else map.get top.old q)) }
+{
+    if !takes_child(depth, node) {
+        return Ok(());
+    }
+    top.is_tree();
+    let _len = name.len();
+    let place = child_path(alloc, &NodePath::root(alloc), name)?;
+    top.put_node(alloc, &place, node.share()?)
+}
