@@ -81,13 +81,9 @@ class Copies:
         return self.tells(*words, form=lambda it: [line for line in parts(it, b'') if not is_folder(line)])
 
     def is_refused(self, number, *words):
-        """Words that the second URL refuses by this number alone, where nothing comes."""
+        """Words that the second URL refuses by this number alone."""
         status, said, numbers = self.run(1, words)
-        self.same('svn %s is refused' % ' '.join(words), (1, [number.encode()], []), (status, numbers, self.came(words)))
-
-    def came(self, words):
-        """What came to where a checkout or an export goes."""
-        return files_in(os.path.join(self.rooms[1], 'new')) if 'new' in words else []
+        self.same('svn %s is refused' % ' '.join(words), (1, [number.encode()]), (status, numbers))
 
     def does(self, *words):
         """Words that do the same to both, whatever they print of it."""

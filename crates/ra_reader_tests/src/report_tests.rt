@@ -8,8 +8,9 @@ use std::process::Abort;
 use std::rt::HostRuntime;
 
 // What is told of reports that no edit answers: one that is given up, of a revision that isn't there, with an item that
-// reports nothing, with a depth that leaves a path out, with a path of another root's URL, one for such a URL; and a session goes on behind each.
-const DENIED: [(&[u8], &[u8]); 9] = [
+// reports nothing, with a path of another root's URL, one for such a URL, and one whose own depth leaves a path out; and a
+// session goes on behind each.
+const DENIED: [(&[u8], &[u8]); 8] = [
     (
         b"( update ( ( 3 ) 0: true unknown false false ) ) ( set-path ( 0: 3 true ( ) infinity ) ) ( abort-report ( ) ) ( get-latest-rev ( ) ) ",
         b"( success ( ( ) 0: ) ) ( success ( ) ) ( success ( ( ) 0: ) ) ( success ( 3 ) ) ",
@@ -31,10 +32,6 @@ const DENIED: [(&[u8], &[u8]); 9] = [
         b"( success ( ( ) 0: ) ) ( failure ( ( 210004 17:bad command shape 0: 0 ) ) ) ",
     ),
     (
-        b"( update ( ( 3 ) 0: true unknown false false ) ) ( set-path ( 0: 3 false ( ) infinity ) ) ( set-path ( 5:trunk 3 false ( ) exclude ) ) ( finish-report ( ) ) ",
-        b"( success ( ( ) 0: ) ) ( failure ( ( 200007 13:not supported 0: 0 ) ) ) ",
-    ),
-    (
         b"( update ( ( 3 ) 0: true unknown false false ) ) ( set-path ( 0: 3 false ( ) infinity ) ) ( link-path ( 5:trunk 25:svn://other:3690/tags/1.0 3 false ( ) infinity ) ) ( finish-report ( ) ) ",
         b"( success ( ( ) 0: ) ) ( failure ( ( 170000 23:not the same repository 0: 0 ) ) ) ",
     ),
@@ -54,7 +51,7 @@ fn reports_without_an_edit(rt: HostRuntime) {
 }
 
 // A command with a report, and what stands in front of the edit that answers it, up to the root's token.
-const ORDERS: [(&[u8], &[u8]); 6] = [
+const ORDERS: [(&[u8], &[u8]); 7] = [
     (
         b"( update ( ( 3 ) 0: true unknown false false ) ) ( set-path ( 0: 3 true ( ) infinity ) ) ( finish-report ( ) ) ",
         b"( success ( ( ) 0: ) ) ( success ( ( ) 0: ) ) ( target-rev ( 3 ) ) ( open-root ( ( 3 ) ",
@@ -74,6 +71,10 @@ const ORDERS: [(&[u8], &[u8]); 6] = [
     (
         b"( status ( 0: true ( ) unknown ) ) ( set-path ( 0: 1 false ( ) infinity ) ) ( finish-report ( ) ) ",
         b"( success ( ( ) 0: ) ) ( success ( ( ) 0: ) ) ( target-rev ( 3 ) ) ( open-root ( ( 1 ) ",
+    ),
+    (
+        b"( update ( ( 3 ) 0: true unknown false false ) ) ( set-path ( 0: 2 false ( ) infinity ) ) ( set-path ( 5:trunk 2 false ( ) exclude ) ) ( finish-report ( ) ) ",
+        b"( success ( ( ) 0: ) ) ( success ( ( ) 0: ) ) ( target-rev ( 3 ) ) ( open-root ( ( 2 ) ",
     ),
     (
         b"( update ( ( 3 ) 0: true unknown false false ) ) ( set-path ( 0: 3 false ( ) infinity ) ) ( link-path ( 3:lib 26:svn://127.0.0.1:3690/trunk 2 false ( 1:t ) infinity ) ) ( finish-report ( ) ) ",
@@ -158,6 +159,32 @@ fn a_report_has_a_limit(rt: HostRuntime) {
     let taken = b"( success ( ( ) 0: ) ) ( failure ( ( 165004 19:bad revision report 0: 0 ) ) ) ";
     assert!(rt; told.as_slice() == taken.as_slice());
     let told = told_at(&rt, alloc, ROOT, &long_report(&rt, alloc, 65_537));
+    let denied = b"( success ( ( ) 0: ) ) ( failure ( ( 200007 13:not supported 0: 0 ) ) ) ";
+    assert!(rt; told.as_slice() == denied.as_slice());
+}
+
+// A report of so many paths of another URL.
+fn linked_report(rt: &impl Abort, alloc: Global, links: usize) -> Vec<u8> {
+    let order = b"( update ( ( 3 ) 0: true unknown false false ) ) ( set-path ( 0: 3 false ) ) ";
+    let mut asked = Vec::from_slice(alloc, order).expect(rt, "memory");
+    for _ in 0..links {
+        asked
+            .extend_from_slice(b"( link-path ( 5:trunk 26:svn://127.0.0.1:3690/trunk 3 false ) ) ")
+            .expect(rt, "memory");
+    }
+    asked
+        .extend_from_slice(b"( finish-report ( ) ) ")
+        .expect(rt, "memory");
+    asked
+}
+
+#[test]
+fn switched_paths_have_a_limit(rt: HostRuntime) {
+    let alloc = rt.alloc();
+    let told = told_at(&rt, alloc, ROOT, &linked_report(&rt, alloc, 1_024));
+    let sent = b"( success ( ( ) 0: ) ) ( success ( ( ) 0: ) ) ( target-rev ( 3 ) ) ";
+    assert!(rt; told.starts_with(sent));
+    let told = told_at(&rt, alloc, ROOT, &linked_report(&rt, alloc, 1_025));
     let denied = b"( success ( ( ) 0: ) ) ( failure ( ( 200007 13:not supported 0: 0 ) ) ) ";
     assert!(rt; told.as_slice() == denied.as_slice());
 }

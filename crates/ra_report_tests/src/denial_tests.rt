@@ -110,17 +110,18 @@ const ROWS: [(&[u8], &[u8], &[u8], &[u8]); 29] = [
         b"( set-path ( 0: 3 false ) ) ( set-path ( 3:new 3 false ) ) ",
         NO_PATH,
     ),
+    // what is reported with a depth is there, and what is left out is below a folder
     (
         b"svn://h",
         NEWEST,
-        b"( set-path ( 0: 3 false ( ) files ) ) ",
-        UNSUPPORTED,
+        b"( set-path ( 0: 3 false ( ) files ) ) ( set-path ( 3:new 3 false ( ) empty ) ) ",
+        NO_PATH,
     ),
     (
         b"svn://h",
         NEWEST,
-        b"( set-path ( 0: 3 false ) ) ( set-path ( 5:trunk 3 false ( ) empty ) ) ",
-        UNSUPPORTED,
+        b"( set-path ( 0: 3 false ) ) ( set-path ( 16:trunk/README/new 3 false ( ) exclude ) ) ",
+        BAD_REPORT,
     ),
     (
         b"svn://h",
@@ -231,13 +232,14 @@ fn reports(rt: HostRuntime) {
 }
 
 // Commands, and whether a report follows them; 0 where they are ordered, or a failure's number.
-const ORDERS: [(&[u8], bool, u64); 16] = [
+const ORDERS: [(&[u8], bool, u64); 17] = [
     (b"( update ( ( ) 0: true ) )", true, 0),
     (b"( update ( ( 9 ) 0: true unknown false false ) )", true, 0),
-    (b"( update ( ( ) 0: false ) )", true, 200_007),
+    (b"( update ( ( ) 0: false ) )", true, 0),
     (b"( update ( ( ) 1:a true ) )", true, 0),
-    (b"( update ( ( ) 1:a false ) )", true, 200_007),
+    (b"( update ( ( ) 1:a false empty ) )", true, 0),
     (b"( update ( ( ) 3:a/b true ) )", true, 200_007),
+    (b"( update ( ( ) 3:a/b true files ) )", true, 200_007),
     (b"( switch ( ( ) 1:a true 15:svn://h/trunk/a ) )", true, 0),
     (b"( switch ( ( ) 1:a true 9:svn://h/a ) )", true, 0),
     (b"( switch ( ( ) 1:a true 9:svn://i/a ) )", true, 170_000),
@@ -247,7 +249,7 @@ const ORDERS: [(&[u8], bool, u64); 16] = [
         0,
     ),
     (b"( status ( 0: true ) )", true, 0),
-    (b"( status ( 0: false ) )", true, 200_007),
+    (b"( status ( 0: false ) )", true, 0),
     (b"( switch ( ( ) 0: true 14:svn://h/a/b%20 ) )", true, 0),
     (b"( switch ( ( ) 0: true 9:svn://i/a ) )", true, 170_000),
     (

@@ -17,6 +17,8 @@ mod reports;
 #[cfg(test)]
 mod site;
 #[cfg(test)]
+mod sparse_tests;
+#[cfg(test)]
 mod switch_tests;
 #[cfg(test)]
 mod target_tests;

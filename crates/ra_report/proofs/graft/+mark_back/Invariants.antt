@@ -1,5 +1,0 @@
-use Rattle.std.proofs.Common.{length}
-use Rattle.ra_report.proofs.graft.+mark_back.Given as goal
-
-abbrev pub decreases-mark_back : goal.decreases-mark_back
-decreases-mark_back l = length l.path.now
