@@ -153,7 +153,8 @@ fn write_greeting<W: Write>(out: &mut W) -> io::Result<()>
 // The greeting, with its name and two capabilities.
 fn write_versions<W: Write>(out: &mut W, name: &[u8], first: &[u8], second: &[u8]) -> io::Result<()>
     ensures { OnOk result (Appends (W.contents out.old) (W.contents out.new)
-        (spell (answer_of name.now (Number 2 ∷ Number 2 ∷ list [] ∷ list (Word first.now ∷ Word second.now ∷ []) ∷ [])))) }
+        (spell (answer_of name.now (Number 2 ∷ Number 2 ∷ list []
+        ∷ list (Word first.now ∷ Word second.now ∷ []) ∷ [])))) }
 {
     write_name(out, name)?;
     write_number(out, 2)?;
@@ -163,9 +164,10 @@ fn write_versions<W: Write>(out: &mut W, name: &[u8], first: &[u8], second: &[u8
     write_end(out)
 }
 
-// A word in brackets.
+// Two words in brackets.
 fn write_two<W: Write>(out: &mut W, first: &[u8], second: &[u8]) -> io::Result<()>
-    ensures { OnOk result (Appends (W.contents out.old) (W.contents out.new) (spell (list (Word first.now ∷ Word second.now ∷ [])))) }
+    ensures { OnOk result (Appends (W.contents out.old) (W.contents out.new)
+        (spell (list (Word first.now ∷ Word second.now ∷ [])))) }
 {
     write_open(out)?;
     write_word(out, first)?;
