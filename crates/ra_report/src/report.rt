@@ -199,12 +199,7 @@ fn begun_in(
 }
 
 // So much of a folder of a tree, or one without what is in it.
-fn folder_begun(
-    alloc: Global,
-    tree: &Tree,
-    folder: &NodePath,
-    shown: Shown,
-) -> Result<Report, Stop>
+fn folder_begun(alloc: Global, tree: &Tree, folder: &NodePath, shown: Shown) -> Result<Report, Stop>
     ensures { Decides (folder_denied shown (finite.get tree.now folder.now))
         (λ r. (q : Path) → content_at r q ≡ begun [] shown tree.now folder.now q) result }
 {

@@ -123,7 +123,12 @@ fn put_within(
 }
 
 // Puts a bare folder in the place of what stands at a path, as long as another tree has anything there.
-fn put_left_out(alloc: Global, top: &mut Tree, path: &NodePath, from: &Tree) -> Result<(), AllocError>
+fn put_left_out(
+    alloc: Global,
+    top: &mut Tree,
+    path: &NodePath,
+    from: &Tree,
+) -> Result<(), AllocError>
     requires below_root { same_path path.now [] ≡ false }
     requires not_blocked { blocked (map.get top.old) path.now ≡ None }
     ensures { OnOk result ((q : Path) → map.get top.new q
