@@ -19,24 +19,24 @@ use Rattle.browse_wire.specs.Reports.{Report, report_as}
 use Rattle.browse_wire.specs.declared.report.ReportCommand.{ReportCommand}
 use Rattle.ra_report.specs.Reports.{is_blocked}
 use Rattle.ra_report.specs.Shown.{Known}
-use Rattle.ra_report.specs.Trimmed.{is_seen, leaves_out, limit_in, seen, seen_at, takes, within_wanted}
+use Rattle.ra_report.specs.Trimmed.{is_seen, limit_in, seen, seen_at, takes, within_wanted}
 use Rattle.ra_report.proofs.Later.{drop_all, next_of}
 use Rattle.ra_report.proofs.Takes.{blocked_is}
 
 -- ---- commands one after another
 
--- whether one leaves something out
-pub next_leaves : (rest : List ReportCommand) (i : ℕ) (c : ReportCommand) (all : Bool) → i < length rest → c ≡ get_or rest i c → list_any leaves_out (map report_as (drop i rest)) ≡ all → (leaves_out (report_as c) || list_any leaves_out (map report_as (drop (i + 1) rest))) ≡ all
-next_leaves rest i c all h e l = sym (ap (λ r. list_any leaves_out (map report_as r)) (next_of rest i c h e)) ∙ l
+-- whether something holds of one
+pub next_holds : (f : Report → Bool) (rest : List ReportCommand) (i : ℕ) (c : ReportCommand) (all : Bool) → i < length rest → c ≡ get_or rest i c → list_any f (map report_as (drop i rest)) ≡ all → (f (report_as c) || list_any f (map report_as (drop (i + 1) rest))) ≡ all
+next_holds f rest i c all h e l = sym (ap (λ r. list_any f (map report_as r)) (next_of rest i c h e)) ∙ l
 
-pub none_leaves : (rest : List ReportCommand) (i : ℕ) (c : ReportCommand) (all : Bool) → i < length rest → c ≡ get_or rest i c → leaves_out (report_as c) ≡ false → list_any leaves_out (map report_as (drop i rest)) ≡ all → list_any leaves_out (map report_as (drop (i + 1) rest)) ≡ all
-none_leaves rest i c all h e f l = sym (ap (λ b. b || list_any leaves_out (map report_as (drop (i + 1) rest))) f) ∙ next_leaves rest i c all h e l
+pub none_holds : (f : Report → Bool) (rest : List ReportCommand) (i : ℕ) (c : ReportCommand) (all : Bool) → i < length rest → c ≡ get_or rest i c → f (report_as c) ≡ false → list_any f (map report_as (drop i rest)) ≡ all → list_any f (map report_as (drop (i + 1) rest)) ≡ all
+none_holds f rest i c all h e n l = sym (ap (λ b. b || list_any f (map report_as (drop (i + 1) rest))) n) ∙ next_holds f rest i c all h e l
 
-pub one_leaves : (rest : List ReportCommand) (i : ℕ) (c : ReportCommand) (all : Bool) → i < length rest → c ≡ get_or rest i c → leaves_out (report_as c) ≡ true → list_any leaves_out (map report_as (drop i rest)) ≡ all → true ≡ all
-one_leaves rest i c all h e f l = sym (ap (λ b. b || list_any leaves_out (map report_as (drop (i + 1) rest))) f) ∙ next_leaves rest i c all h e l
+pub one_holds : (f : Report → Bool) (rest : List ReportCommand) (i : ℕ) (c : ReportCommand) (all : Bool) → i < length rest → c ≡ get_or rest i c → f (report_as c) ≡ true → list_any f (map report_as (drop i rest)) ≡ all → true ≡ all
+one_holds f rest i c all h e n l = sym (ap (λ b. b || list_any f (map report_as (drop (i + 1) rest))) n) ∙ next_holds f rest i c all h e l
 
-pub all_stay : (rest : List ReportCommand) (i : ℕ) (all : Bool) → length rest ≤ i → list_any leaves_out (map report_as (drop i rest)) ≡ all → false ≡ all
-all_stay rest i all h l = sym (ap (λ r. list_any leaves_out (map report_as r)) (drop_all rest i h)) ∙ l
+pub all_stay : (f : Report → Bool) (rest : List ReportCommand) (i : ℕ) (all : Bool) → length rest ≤ i → list_any f (map report_as (drop i rest)) ≡ all → false ≡ all
+all_stay f rest i all h l = sym (ap (λ r. list_any f (map report_as r)) (drop_all rest i h)) ∙ l
 
 -- their limits
 pub one_limit : (z : Option Depth) (b : Bool) (made new : List Limit) (rest : List ReportCommand) (i : ℕ) (c : ReportCommand) (all : List Limit) → i < length rest → c ≡ get_or rest i c → new ≡ made ++ limit_in z b (report_as c)

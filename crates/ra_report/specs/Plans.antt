@@ -16,7 +16,7 @@ use Rattle.ra_update.specs.Sent.{Make}
 use Rattle.ra_serve.specs.Ports.{tree_of}
 use Rattle.ra_report.specs.Reports.{Having, having, aimed, reported, base_of}
 use Rattle.ra_report.specs.Switches.{kept, with_switches}
-use Rattle.ra_report.specs.Trimmed.{deepens, limits_in, seen_at, within_wanted}
+use Rattle.ra_report.specs.Trimmed.{limits_in, opens_all, seen_at, within_wanted}
 use Rattle.ra_report.specs.declared.switched.Switched.{Switched}
 use Rattle.ra_report.specs.Edits.{Edit, wanted, wanted_with, calls, all_props}
 use Rattle.ra_report.specs.declared.plan.Wanted as declared_wanted
@@ -48,7 +48,7 @@ pub record IsTrimmedBy (depth : Option Depth) (t : Path) (cs : List Report) (old
   pub wants : (q : Path) → finite.get new.wanted.tree q ≡ within_wanted depth t (with_limits (finite.get old.wanted.tree) (finite.get old.wanted.tree) (limits_in depth cs)) q
   pub has : (q : Path) → content_at new.copy.report q ≡ seen_at depth t (content_at old.copy.report) q
   pub base : new.copy.base ≡ old.copy.base
-  pub opens : new.opens ≡ deepens depth cs
+  pub opens : new.opens ≡ opens_all cs
   pub tells_root : new.tells_root ≡ old.tells_root
   pub identity : new.identity ≡ old.identity
   pub revisions : new.revisions.items ≡ old.revisions.items

@@ -1,5 +1,5 @@
 -- What is wanted by a working copy that doesn't have all, and where a command wants a depth.
-use Rattle.std.specs.Prelude.{Bool, true, false, not, List, [], ◌∷◌, ◌++◌, map, Option, Some, None, is_some, if◌then◌else◌}
+use Rattle.std.specs.Prelude.{Bool, true, false, not, ◌&&◌, List, [], ◌∷◌, ◌++◌, map, Option, Some, None, is_some, if◌then◌else◌}
 use Rattle.std.specs.Option.{option_and_then}
 use Rattle.std.specs.List.{flat_map, list_any}
 use Rattle.node_base.specs.Path.{Path}
@@ -23,6 +23,23 @@ use Rattle.ra_report.specs.Shown.{Known, part_as}
 abbrev pub is_whole : Part → Bool
 is_whole (part.Within d) = goes_below d
 is_whole part.LeftOut = false
+
+-- it is there, and not all below it
+abbrev pub is_shallow : Part → Bool
+is_shallow (part.Within d) = not (goes_below d)
+is_shallow part.LeftOut = false
+
+abbrev pub is_left_out : Part → Bool
+is_left_out (part.Within d) = false
+is_left_out part.LeftOut = true
+
+-- a command reports a path of which that holds
+abbrev pub reports : (Part → Bool) → Report → Bool
+reports holds (SetPath r) = holds (part_as r.depth)
+reports holds (LinkPath r url) = holds (part_as r.depth)
+reports holds (DeletePath p) = false
+reports holds FinishReport = false
+reports holds AbortReport = false
 
 abbrev pub leaves_out : Report → Bool
 leaves_out (SetPath r) = not (is_whole (part_as r.depth))
@@ -62,10 +79,9 @@ within_wanted (Some d) t f = with_limit f f (record { path = t; part = part.With
 abbrev pub trimmed : Option Depth → Path → List Report → (Path → Option Node) → Path → Option Node
 trimmed wanted t cs f = within_wanted wanted t (with_limits f f (limits_in wanted (map (aimed t) cs)))
 
--- folders in which nothing differs are opened too, where a depth is wanted of a working copy that doesn't have all: a client sets their depth then
-abbrev pub deepens : Option Depth → List Report → Bool
-deepens None cs = false
-deepens (Some d) cs = list_any leaves_out cs
+-- folders in which nothing differs are opened too, where some path is there in part and none is left out: a client sets their depth then, and notes what of them it hasn't
+abbrev pub opens_all : List Report → Bool
+opens_all cs = list_any (reports is_shallow) cs && not (list_any (reports is_left_out) cs)
 
 -- ---- what was reported, looked at as deep
 

@@ -10,7 +10,8 @@ ghost use Rattle.ra_browse.specs.Tellings.{Decides};
 ghost use Rattle.ra_report.specs.Plans.{IsTrimmed, IsTrimmedBy};
 ghost use Rattle.ra_report.specs.Reports.{aims_denied};
 ghost use Rattle.ra_report.specs.Shown.{part_as};
-ghost use Rattle.ra_report.specs.Trimmed.{counts, deepens, is_whole, leaves_out, limit_at, limit_in, limits_in, seen_at, within_wanted};
+ghost use Rattle.ra_report.specs.Trimmed.{counts, is_left_out, is_shallow, is_whole, leaves_out};
+ghost use Rattle.ra_report.specs.Trimmed.{limit_at, limit_in, limits_in, opens_all, reports, seen_at, within_wanted};
 ghost use Rattle.tree_reports.specs.Sparse.{with_limits};
 
 use crate::aim::aimed_all;
@@ -80,7 +81,7 @@ fn trim(
         identity,
         revisions,
         tells_root,
-        opens: deepens(wanted, report),
+        opens: opens_all(report),
     })
 }
 
@@ -149,16 +150,6 @@ fn looked_at(
 }
 
 // ---- what a report leaves out
-
-// Whether a depth is wanted of a working copy that doesn't have all.
-fn deepens(wanted: Option<Depth>, report: &[ReportCommand]) -> bool
-    ensures { result ≡ deepens wanted (map report_as report.now) }
-{
-    match wanted {
-        None => false,
-        Some(_) => is_sparse(report),
-    }
-}
 
 // The limits of its paths that count.
 fn limits_in(
@@ -271,5 +262,84 @@ fn counts(wanted: Option<Depth>, sparse: bool, part: Part) -> bool
             Part::Within(_) => false,
             Part::LeftOut => true,
         },
+    }
+}
+
+// ---- which folders are opened
+
+// Whether folders in which nothing differs are opened too.
+fn opens_all(report: &[ReportCommand]) -> bool
+    ensures { result ≡ opens_all (map report_as report.now) }
+{
+    any_is_shallow(report) && !any_is_left_out(report)
+}
+
+// Whether some path is there in part.
+fn any_is_shallow(report: &[ReportCommand]) -> bool
+    ensures { result ≡ list_any (reports is_shallow) (map report_as report.now) }
+{
+    for command in report {
+        if reports_shallow(command) {
+            return true;
+        }
+    }
+    false
+}
+
+// Whether some path is left out.
+fn any_is_left_out(report: &[ReportCommand]) -> bool
+    ensures { result ≡ list_any (reports is_left_out) (map report_as report.now) }
+{
+    for command in report {
+        if reports_left_out(command) {
+            return true;
+        }
+    }
+    false
+}
+
+fn reports_shallow(command: &ReportCommand) -> bool
+    ensures { result ≡ reports is_shallow (report_as command.now) }
+{
+    match command {
+        ReportCommand::SetPath(path) => is_shallow(part_of(path.depth)),
+        ReportCommand::LinkPath(path, _) => is_shallow(part_of(path.depth)),
+        ReportCommand::DeletePath(_) => false,
+        ReportCommand::FinishReport => false,
+        ReportCommand::AbortReport => false,
+    }
+}
+
+fn reports_left_out(command: &ReportCommand) -> bool
+    ensures { result ≡ reports is_left_out (report_as command.now) }
+{
+    match command {
+        ReportCommand::SetPath(path) => is_left_out(part_of(path.depth)),
+        ReportCommand::LinkPath(path, _) => is_left_out(part_of(path.depth)),
+        ReportCommand::DeletePath(_) => false,
+        ReportCommand::FinishReport => false,
+        ReportCommand::AbortReport => false,
+    }
+}
+
+// Whether a path is there, and not all below it.
+fn is_shallow(part: Part) -> bool
+    ensures { result ≡ is_shallow part }
+{
+    match part {
+        Part::Within(Depth::Empty) => true,
+        Part::Within(Depth::Files) => true,
+        Part::Within(Depth::Immediates) => true,
+        Part::Within(Depth::Infinity) => false,
+        Part::LeftOut => false,
+    }
+}
+
+fn is_left_out(part: Part) -> bool
+    ensures { result ≡ is_left_out part }
+{
+    match part {
+        Part::Within(_) => false,
+        Part::LeftOut => true,
     }
 }

@@ -46,7 +46,7 @@ const DEEPER: &[u8] =
     close-edit ( ) ) ";
 
 // What a session at the root asks and reports, and the edit.
-const ROWS: [(&[u8], &[u8], &[u8]); 10] = [
+const ROWS: [(&[u8], &[u8], &[u8]); 8] = [
     // the folder alone, reported so or wanted so
     (
         b"( update ( ( 3 ) 0: true unknown false false ) )",
@@ -81,18 +81,8 @@ const ROWS: [(&[u8], &[u8], &[u8]); 10] = [
     ),
     // what is in the folder, and nothing below it
     (
-        b"( update ( ( 3 ) 0: true unknown false false ) )",
-        b"( set-path ( 0: 1 false ( ) immediates ) ) ",
-        NEAR,
-    ),
-    (
         b"( update ( ( 3 ) 0: true immediates false false ) )",
         b"( set-path ( 0: 1 false ( ) infinity ) ) ",
-        NEAR,
-    ),
-    (
-        b"( update ( ( 3 ) 0: true unknown false false ) )",
-        b"( set-path ( 0: 1 false ( ) infinity ) ) ( set-path ( 5:trunk 1 false ( ) empty ) ) ",
         NEAR,
     ),
     // a folder that is made deeper
