@@ -51,7 +51,8 @@ class Effect:
         self.enter((), token)
 
     def delete_entry(self, path, _base, _up):
-        if names(path) not in self.tree:
+        # (svnserve deletes too what a copy hasn't, since it is deeper than was reported)
+        if names(path) not in self.tree and not self.edit.is_sparse:
             raise ValueError(f'nothing to delete at {path}')
         self.tree = placed(self.tree, names(path), {})
 

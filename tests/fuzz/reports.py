@@ -76,9 +76,15 @@ def change_at(old, new, path):
     return Change(path, b'change', after['kind'], None, props, text) if props is not None or text is not None else None
 
 
-def changes_between(old, new):
-    found = [change_at(old, new, it) for it in sorted({*old, *new})]
+def changes_between(old, new, opens):
+    """The changes, in path order; where it is so, each folder that stays has one too, which may give nothing."""
+    found = [change_at(old, new, it) or opened(old, new, it, opens) for it in sorted({*old, *new})]
     return [it for it in found if it]
+
+
+def opened(old, new, path, opens):
+    stays = opens and path in old and path in new and new[path]['kind'] == b'dir'
+    return Change(path, b'change', b'dir', None, None, None) if stays else None
 
 
 # ---- the edit
@@ -92,7 +98,8 @@ class Update(Edit):
         self.server, self.goal, self.has_texts = report.server, goal, report.has_texts
         # (a target stands alone in its folder, of which nothing is told)
         self.tells_root = not report.target
-        super().__init__([reported], changes_between(reported, goal), number=number, base=report.base)
+        self.is_sparse = any(depth != b'infinity' for _, depth in report.limits)
+        super().__init__([reported], changes_between(reported, goal, report.opens()), number=number, base=report.base)
 
     def props_at(self, path, _done):
         return self.trees[0][path]['props']
@@ -210,6 +217,11 @@ class Report:
             if depth == b'exclude' if self.depth != b'unknown' else is_sparse:
                 tree = limited(tree, whole, path, depth)
         return tree
+
+    def opens(self):
+        """Whether folders are opened in which nothing differs: some path is there in part, and none is left out."""
+        depths = {depth for _, depth in self.limits}
+        return bool(depths & {b'empty', b'files', b'immediates'}) and b'exclude' not in depths
 
     def take(self, name, params):
         if self.tree is None:

@@ -246,9 +246,9 @@ def sparse(reader):
     # commands that look so deep
     for depth in DEPTHS:
         copies.does('update', '-r', str(numbers[0]), 'wc')
-        for words in (['status', '-u'], ['update']):
-            copies.sections(b'', *words, '--depth', depth, 'wc')
-            copies.alike('%s --depth %s' % (words[0], depth))
+        copies.marks('status', '-u', '--depth', depth, 'wc')
+        copies.does('update', '--depth', depth, 'wc')
+        copies.alike('update --depth %s' % depth)
         for words in (['-r', '%d:%d' % (numbers[1], reader.head), reader.at(main)], ['-r', str(numbers[1]), 'wc']):
             copies.sections(b'Index: ', 'diff', '--depth', depth, *words)
         copies.sections(b'', 'diff', '--summarize', '--depth', depth, '-r', '%d:%d' % (reader.head, numbers[1]), reader.at(main))
