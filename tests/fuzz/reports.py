@@ -196,8 +196,14 @@ class Report:
             self.take(*it)
         if self.tree is None:
             raise Denied(165004)
-        both = (within(it, self.depth) for it in (self.tree, self.thinned(self.followed(wanted, number))))
-        return Update(self, *(placed(ROOT, front, it) for it in both), number)
+        whole = self.followed(wanted, number)
+        both = (within(it, self.depth) for it in (self.tree, self.thinned(whole)))
+        return Update(self, *(self.dropped(placed(ROOT, front, it), whole) for it in both), number)
+
+    def dropped(self, tree, whole):
+        """The tree without what is left out of what is wanted: nothing is told of it."""
+        gone = [self.target + path for path, depth in self.limits if depth == b'exclude' and path in whole and self.target + path]
+        return {it: node for it, node in tree.items() if not any(it[:len(path)] == path for path in gone)}
 
     def followed(self, wanted, number):
         """What is wanted where a folder stays switched: what stands there at its own place."""
@@ -219,9 +225,8 @@ class Report:
         return tree
 
     def opens(self):
-        """Whether folders are opened in which nothing differs: some path is there in part, and none is left out."""
-        depths = {depth for _, depth in self.limits}
-        return bool(depths & {b'empty', b'files', b'immediates'}) and b'exclude' not in depths
+        """Whether folders are opened in which nothing differs: some path is there in part."""
+        return any(depth in (b'empty', b'files', b'immediates') for _, depth in self.limits)
 
     def take(self, name, params):
         if self.tree is None:

@@ -243,6 +243,18 @@ def sparse(reader):
         copies.does('update', '--set-depth', 'infinity', 'wc')
         copies.alike('all of %s again' % path)
         copies.does('update', 'wc')
+    # commands that look less deep beside what is left out
+    for path in inside:
+        copies.does('update', '--set-depth', 'exclude', 'wc/' + path)
+        for depth in DEPTHS[:-1]:
+            copies.does('update', '-r', str(numbers[0]), 'wc')
+            copies.does('update', '--depth', depth, 'wc')
+            copies.alike('update --depth %s without %s' % (depth, path))
+            for number in (numbers[0], reader.head):
+                copies.does('update', '-r', str(number), 'wc')
+                copies.alike('update from that to %d without %s' % (number, path))
+        copies.does('update', '--set-depth', 'infinity', 'wc')
+        copies.alike('all beside %s too' % path)
     # commands that look so deep
     for depth in DEPTHS:
         copies.does('update', '-r', str(numbers[0]), 'wc')

@@ -1,10 +1,10 @@
 -- What stands at a folder of a revision.
-use Rattle.std.proofs.Common.{◌≡◌, ℕ, Bool, true, false, not, [], ◌∷◌, ◌++◌, List, Option, Some, None, IsSomeAnd, IsNone, is_some, is_none, Result, refl, sym, ap, subst, ◌∙◌, cond, arith}
+use Rattle.std.proofs.Common.{◌≡◌, ℕ, true, false, not, [], ◌∷◌, ◌++◌, List, Option, Some, None, IsSomeAnd, IsNone, is_some, is_none, Result, refl, sym, ap, subst, ◌∙◌, cond, arith}
 use Rattle.std.specs.Option.{option_map, option_map_or, option_or}
 use Rattle.std.specs.FinMap as finite
 use Rattle.node_base.specs.Limits.{fits}
-use Rattle.node_base.specs.Path.{Name, Path, rest_after, same_path}
-use Rattle.node_base.specs.Tree.{PathMap, IsDirAt, IsTree, alone, blocked, grafted, new_dir}
+use Rattle.node_base.specs.Path.{Path, rest_after, same_path}
+use Rattle.node_base.specs.Tree.{PathMap, IsDirAt, alone, blocked, grafted, new_dir}
 use Rattle.node_base.specs.declared.fault.TreeFault.TheVariants.{NoSuchPath, NotDir}
 use Rattle.node_base.specs.declared.node.Node.{Node}
 use Rattle.path_tree.specs.Copies.{copy_too_long}
@@ -19,7 +19,7 @@ use Rattle.ra_browse.specs.declared.denial.Denial.{Denial}
 use Rattle.ra_browse.specs.declared.denial.Denial.TheVariants as denial
 use Rattle.ra_browse.specs.declared.stop.Stop.{Stop}
 use Rattle.ra_browse.specs.Answers.{no_revision, dir_denied}
-use Rattle.ra_browse.specs.Tellings.{Comes, Decides, Denies}
+use Rattle.ra_browse.specs.Tellings.{Comes, Decides}
 use Rattle.ra_browse.proofs.Causes.{is_there}
 use Rattle.ra_report.specs.Orders.{is_short, place_denied, wanted_denied, wanted_in}
 use Rattle.ra_report.specs.Plans.{IsWanted, IsCopy}

@@ -30,7 +30,7 @@ use Rattle.ra_report.specs.Plans.{AreKept, IsCopy, IsFullPlan, IsTrimmed, IsWant
 use Rattle.ra_report.specs.Reports.{Having, having, aimed, aims_denied, reports_denied, reported, base_of, whole_denied}
 use Rattle.ra_report.specs.Shown.{Known}
 use Rattle.ra_report.specs.Switches.{kept, switches_denied, with_switches}
-use Rattle.ra_report.specs.Trimmed.{seen_at, trimmed}
+use Rattle.ra_report.specs.Trimmed.{had, trimmed}
 use Rattle.ra_report.specs.declared.order.Order.{Order}
 use Rattle.ra_report.specs.declared.plan.Plan.{Plan}
 use Rattle.ra_report.specs.declared.plan.Wanted.{Wanted}
@@ -129,7 +129,7 @@ is_edit x at n p t z b rs v e i o =
     record {
       tells_root = o.tells_root ∙ c.tells_root ∙ f.tells_root;
       opens = o.opens ∙ c.opens;
-      reports = λ q. ap (λ m. content_at m q) o.reported_is ∙ c.has q ∙ ap (λ (k : Known). seen_at z t k q) known;
+      reports = λ q. ap (λ m. content_at m q) o.reported_is ∙ c.has q ∙ ap (λ (g : Path → Option Node). had z t rs g (content_at i.full.copy.report) q) wants ∙ ap (λ (k : Known). had z t rs (wanted_with x n p t b (reported x at t rs)) k q) known;
       wants = λ q. ap (λ m. finite.get m q) o.wanted_is ∙ c.wants q ∙ ap (λ (g : Path → Option Node). trimmed z t rs g q) wants;
       number = o.number ∙ c.number ∙ f.wants.number;
       base = o.base ∙ ap (λ m. Some m) c.base ∙ f.has.base_is;

@@ -30,7 +30,7 @@ use Rattle.ra_browse.specs.Histories.{is_looked_at}
 use Rattle.ra_report.specs.Orders.{order_denied, wanted_denied, wanted_in, revision_of, place_of, target_of, depth_of, keeps}
 use Rattle.ra_report.specs.Reports.{Having, aimed, reports_denied, reported, base_of}
 use Rattle.ra_report.specs.Switches.{kept, switches_denied, with_switches}
-use Rattle.ra_report.specs.Trimmed.{opens_all, seen_at, trimmed}
+use Rattle.ra_report.specs.Trimmed.{had, opens_all, trimmed}
 
 -- what is wanted where a working copy has this: what stands at the place, and what is switched stays so
 abbrev pub wanted_with : Repository → Option ℕ → Path → Path → Bool → Having → Path → Option Node
@@ -64,7 +64,7 @@ all_props x = map (λ r. r.props) x.revisions
 
 -- of what a working copy reports it makes so much of what is wanted; a target stands alone in its folder, of which nothing is told
 pub record IsEdit (x : Repository) (at : Url) (n : Option ℕ) (place t : Path) (depth : Option Depth) (keeps : Bool) (rs : List Report) (e : Edit) : Type 0 where
-  pub reports : (q : Path) → content_at e.reported q ≡ seen_at depth t (reported x at t rs).known q
+  pub reports : (q : Path) → content_at e.reported q ≡ had depth t rs (wanted_with x n place t keeps (reported x at t rs)) (reported x at t rs).known q
   pub tells_root : e.facts.tells_root ≡ same_path t []
   pub opens : e.facts.opens ≡ opens_all (map (aimed t) rs)
   pub wants : (q : Path) → finite.get (wanted e) q ≡ trimmed depth t rs (wanted_with x n place t keeps (reported x at t rs)) q

@@ -6,7 +6,6 @@ use Rattle.node_base.specs.Path.{Path, same_path}
 use Rattle.node_base.specs.declared.node.Node.{Node}
 use Rattle.tree_changes.specs.Changes.{AreBetween}
 use Rattle.tree_reports.specs.Reports.{content_at}
-use Rattle.tree_reports.specs.Sparse.{with_limits}
 use Rattle.tree_reports.specs.declared.depth.Depth.{Depth}
 use Rattle.browse_wire.specs.Reports.{Report}
 use Rattle.browse_wire.specs.Urls.{Url}
@@ -16,7 +15,7 @@ use Rattle.ra_update.specs.Sent.{Make}
 use Rattle.ra_serve.specs.Ports.{tree_of}
 use Rattle.ra_report.specs.Reports.{Having, having, aimed, reported, base_of}
 use Rattle.ra_report.specs.Switches.{kept, with_switches}
-use Rattle.ra_report.specs.Trimmed.{limits_in, opens_all, seen_at, within_wanted}
+use Rattle.ra_report.specs.Trimmed.{had_by, limits_in, opens_all, trimmed_by}
 use Rattle.ra_report.specs.declared.switched.Switched.{Switched}
 use Rattle.ra_report.specs.Edits.{Edit, wanted, wanted_with, calls, all_props}
 use Rattle.ra_report.specs.declared.plan.Wanted as declared_wanted
@@ -45,8 +44,8 @@ pub record IsFullPlan (x : Repository) (at : Url) (n : Option ℕ) (place t : Pa
 -- so much of it as a working copy has and a command wants
 pub record IsTrimmedBy (depth : Option Depth) (t : Path) (cs : List Report) (old new : declared.Plan) : Type 0 where
   pub number : new.wanted.number ≡ old.wanted.number
-  pub wants : (q : Path) → finite.get new.wanted.tree q ≡ within_wanted depth t (with_limits (finite.get old.wanted.tree) (finite.get old.wanted.tree) (limits_in depth cs)) q
-  pub has : (q : Path) → content_at new.copy.report q ≡ seen_at depth t (content_at old.copy.report) q
+  pub wants : (q : Path) → finite.get new.wanted.tree q ≡ trimmed_by depth t (limits_in depth cs) (finite.get old.wanted.tree) q
+  pub has : (q : Path) → content_at new.copy.report q ≡ had_by depth t (limits_in depth cs) (finite.get old.wanted.tree) (content_at old.copy.report) q
   pub base : new.copy.base ≡ old.copy.base
   pub opens : new.opens ≡ opens_all cs
   pub tells_root : new.tells_root ≡ old.tells_root

@@ -1,6 +1,6 @@
 -- What a working copy reports that it has, command by command. The nodes' numbers don't count.
 use Rattle.std.specs.Prelude.{ℕ, Bool, true, false, not, List, [], ◌∷◌, ◌++◌, map, length, nat_lt, Option, Some, None, is_some, is_none, if◌then◌else◌}
-use Rattle.std.specs.Option.{option_map, option_map_or, option_or}
+use Rattle.std.specs.Option.{option_map_or, option_or}
 use Rattle.std.specs.FinMap as finite
 use Rattle.node_base.specs.Limits.{fits}
 use Rattle.node_base.specs.Path.{Path, same_path}

@@ -2,7 +2,7 @@
 use Rattle.std.specs.Prelude.{Bool, true, false, not, ◌&&◌, List, [], ◌∷◌, ◌++◌, map, Option, Some, None, is_some, if◌then◌else◌}
 use Rattle.std.specs.Option.{option_and_then}
 use Rattle.std.specs.List.{flat_map, list_any}
-use Rattle.node_base.specs.Path.{Path}
+use Rattle.node_base.specs.Path.{Path, is_front, same_path}
 use Rattle.node_base.specs.declared.node.Node.{Node}
 use Rattle.tree_reports.specs.Applied.{Content}
 use Rattle.tree_reports.specs.Depths.{goes_below}
@@ -68,6 +68,23 @@ limit_in wanted sparse AbortReport = []
 abbrev pub limits_in : Option Depth → List Report → List Limit
 limits_in wanted cs = flat_map (limit_in wanted (list_any leaves_out cs)) cs
 
+-- ---- what stands in neither tree
+
+-- a limit leaves a path out at which something is wanted; the folder itself stays
+abbrev pub is_dropped : (Path → Option Node) → Limit → Bool
+is_dropped f l = is_left_out l.part && not (same_path l.path []) && is_some (f l.path)
+
+abbrev pub drop_at : (Path → Option Node) → Limit → List Path
+drop_at f l = if is_dropped f l then l.path ∷ [] else []
+
+-- the paths that are left out of what is wanted: nothing is told of them
+abbrev pub drops : (Path → Option Node) → List Limit → List Path
+drops f ls = flat_map (drop_at f) ls
+
+-- without what stands at the paths and below them
+abbrev pub without : {A : Type 0} → List Path → (Path → Option A) → Path → Option A
+without ps f q = if list_any (λ p. is_front p q) ps then None else f q
+
 -- ---- what is wanted
 
 -- the target is looked at as deep as a command wants
@@ -75,13 +92,17 @@ abbrev pub within_wanted : Option Depth → Path → (Path → Option Node) → 
 within_wanted None t f = f
 within_wanted (Some d) t f = with_limit f f (record { path = t; part = part.Within d })
 
--- of what stands there, so much as the working copy has, and of that as much as is wanted
-abbrev pub trimmed : Option Depth → Path → List Report → (Path → Option Node) → Path → Option Node
-trimmed wanted t cs f = within_wanted wanted t (with_limits f f (limits_in wanted (map (aimed t) cs)))
+-- of what stands there so much as limits leave, and of that as much as is wanted; nothing stands where a path is left out
+abbrev pub trimmed_by : Option Depth → Path → List Limit → (Path → Option Node) → Path → Option Node
+trimmed_by wanted t ls f = without (drops f ls) (within_wanted wanted t (with_limits f f ls))
 
--- folders in which nothing differs are opened too, where some path is there in part and none is left out: a client sets their depth then, and notes what of them it hasn't
+-- the limits are those of a working copy
+abbrev pub trimmed : Option Depth → Path → List Report → (Path → Option Node) → Path → Option Node
+trimmed wanted t cs f = trimmed_by wanted t (limits_in wanted (map (aimed t) cs)) f
+
+-- folders in which nothing differs are opened too, where some path is there in part: a client sets their depth then, and notes what of them it hasn't
 abbrev pub opens_all : List Report → Bool
-opens_all cs = list_any (reports is_shallow) cs && not (list_any (reports is_left_out) cs)
+opens_all cs = list_any (reports is_shallow) cs
 
 -- ---- what was reported, looked at as deep
 
@@ -103,3 +124,10 @@ seen d k q = option_and_then (λ c. if is_seen d q c then Some c else None) (k q
 abbrev pub seen_at : Option Depth → Path → Known → Known
 seen_at None t k = k
 seen_at (Some d) t k = if is_blocked k t then k else placed k t (seen d (λ q. k (t ++ q)))
+
+-- what is left out of what is wanted isn't there; where nothing is wanted, a left out path stands as it was reported, so that its deletion is told
+abbrev pub had_by : Option Depth → Path → List Limit → (Path → Option Node) → Known → Known
+had_by wanted t ls f k = without (drops f ls) (seen_at wanted t k)
+
+abbrev pub had : Option Depth → Path → List Report → (Path → Option Node) → Known → Known
+had wanted t cs f k = had_by wanted t (limits_in wanted (map (aimed t) cs)) f k

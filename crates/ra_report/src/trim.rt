@@ -10,9 +10,9 @@ ghost use Rattle.ra_browse.specs.Tellings.{Decides};
 ghost use Rattle.ra_report.specs.Plans.{IsTrimmed, IsTrimmedBy};
 ghost use Rattle.ra_report.specs.Reports.{aims_denied};
 ghost use Rattle.ra_report.specs.Shown.{part_as};
-ghost use Rattle.ra_report.specs.Trimmed.{counts, is_left_out, is_shallow, is_whole, leaves_out};
-ghost use Rattle.ra_report.specs.Trimmed.{limit_at, limit_in, limits_in, opens_all, reports, seen_at, within_wanted};
-ghost use Rattle.tree_reports.specs.Sparse.{with_limits};
+ghost use Rattle.ra_report.specs.Trimmed.{counts, drop_at, drops, had_by, is_dropped, is_left_out, is_shallow, is_whole};
+ghost use Rattle.ra_report.specs.Trimmed.{leaves_out, limit_at, limit_in, limits_in, opens_all, reports, trimmed_by};
+ghost use Rattle.ra_report.specs.Trimmed.{within_wanted, without};
 
 use crate::aim::aimed_all;
 use crate::plan::{Plan, Wanted, WorkingCopy};
@@ -75,9 +75,10 @@ fn trim(
         tells_root,
         opens: _,
     } = plan;
+    let copy = trim_copy(alloc, copy, target, wanted, &all.tree, limits.as_slice())?;
     Ok(Plan {
         wanted: trim_wanted(alloc, all, target, wanted, limits.as_slice())?,
-        copy: trim_copy(alloc, copy, target, wanted)?,
+        copy,
         identity,
         revisions,
         tells_root,
@@ -93,38 +94,43 @@ fn trim_wanted(
     wanted: Option<Depth>,
     limits: &[Limit],
 ) -> Result<Wanted, AllocError>
-    ensures { IfOk result (λ w. (w.number ≡ all.number) × (w.whole ≡ all.whole) × ((q : Path) → finite.get w.tree q
-        ≡ within_wanted wanted target.now (with_limits (finite.get all.tree) (finite.get all.tree) limits.now) q)) }
+    ensures { IfOk result (λ w. (w.number ≡ all.number) × (w.whole ≡ all.whole)
+        × ((q : Path) → finite.get w.tree q ≡ trimmed_by wanted target.now limits.now (finite.get all.tree) q)) }
 {
     let Wanted {
         number,
-        tree,
+        tree: full,
         whole,
     } = all;
-    let tree = limit_all(alloc, tree.share()?, &tree, limits)?;
+    let limited = limit_all(alloc, full.share()?, &full, limits)?;
+    let seen = looked_at(alloc, limited, target, wanted)?;
     Ok(Wanted {
         number,
-        tree: looked_at(alloc, tree, target, wanted)?,
+        tree: without(alloc, seen, &full, limits)?,
         whole,
     })
 }
 
-// What was reported.
+// What was reported, where all of a tree is wanted.
 fn trim_copy(
     alloc: Global,
     copy: WorkingCopy,
     target: &NodePath,
     wanted: Option<Depth>,
+    full: &Tree,
+    limits: &[Limit],
 ) -> Result<WorkingCopy, AllocError>
     ensures { IfOk result (λ c. (c.base ≡ copy.base) × (c.switches.items ≡ copy.switches.items)
-        × ((q : Path) → content_at c.report q ≡ seen_at wanted target.now (content_at copy.report) q)) }
+        × ((q : Path) → content_at c.report q
+        ≡ had_by wanted target.now limits.now (finite.get full.now) (content_at copy.report) q)) }
 {
     let WorkingCopy {
         report,
         switches,
         base,
     } = copy;
-    let tree = looked_at(alloc, report.tree().share()?, target, wanted)?;
+    let seen = looked_at(alloc, report.tree().share()?, target, wanted)?;
+    let tree = without(alloc, seen, full, limits)?;
     Ok(WorkingCopy {
         report: Report::begin(tree),
         switches,
@@ -147,6 +153,50 @@ fn looked_at(
     let path = target.copy(alloc)?;
     let part = Part::Within(depth);
     limit_one(alloc, tree.share()?, &tree, &Limit { path, part })
+}
+
+// ---- what stands in neither tree
+
+// The tree without what limits leave out of all that is wanted.
+fn without(alloc: Global, tree: Tree, full: &Tree, limits: &[Limit]) -> Result<Tree, AllocError>
+    ensures { IfOk result (λ t. (q : Path) → finite.get t q
+        ≡ without (drops (finite.get full.now) limits.now) (finite.get tree) q) }
+{
+    let mut top = tree;
+    for limit in limits {
+        top = without_one(alloc, top, full, limit)?;
+    }
+    Ok(top)
+}
+
+// The same of one limit.
+fn without_one(alloc: Global, tree: Tree, full: &Tree, limit: &Limit) -> Result<Tree, AllocError>
+    ensures { IfOk result (λ t. (q : Path) → finite.get t q
+        ≡ without (drop_at (finite.get full.now) limit.now) (finite.get tree) q) }
+{
+    if is_dropped(full, limit) {
+        // For the proof: below a path at which nothing stands, nothing does.
+        tree.is_tree();
+        let nothing = Tree::empty(alloc)?;
+        return limit_one(alloc, tree, &nothing, limit);
+    }
+    Ok(tree)
+}
+
+// Whether a limit leaves out what is wanted at its path.
+fn is_dropped(full: &Tree, limit: &Limit) -> bool
+    ensures { result ≡ is_dropped (finite.get full.now) limit.now }
+{
+    is_left_out(limit.part) && !limit.path.is_root() && full.get(limit.path.names()).is_some()
+}
+
+fn is_left_out(part: Part) -> bool
+    ensures { result ≡ is_left_out part }
+{
+    match part {
+        Part::Within(_) => false,
+        Part::LeftOut => true,
+    }
 }
 
 // ---- what a report leaves out
@@ -271,13 +321,6 @@ fn counts(wanted: Option<Depth>, sparse: bool, part: Part) -> bool
 fn opens_all(report: &[ReportCommand]) -> bool
     ensures { result ≡ opens_all (map report_as report.now) }
 {
-    any_is_shallow(report) && !any_is_left_out(report)
-}
-
-// Whether some path is there in part.
-fn any_is_shallow(report: &[ReportCommand]) -> bool
-    ensures { result ≡ list_any (reports is_shallow) (map report_as report.now) }
-{
     for command in report {
         if reports_shallow(command) {
             return true;
@@ -286,36 +329,13 @@ fn any_is_shallow(report: &[ReportCommand]) -> bool
     false
 }
 
-// Whether some path is left out.
-fn any_is_left_out(report: &[ReportCommand]) -> bool
-    ensures { result ≡ list_any (reports is_left_out) (map report_as report.now) }
-{
-    for command in report {
-        if reports_left_out(command) {
-            return true;
-        }
-    }
-    false
-}
-
+// Whether a command reports a path that is there in part.
 fn reports_shallow(command: &ReportCommand) -> bool
     ensures { result ≡ reports is_shallow (report_as command.now) }
 {
     match command {
         ReportCommand::SetPath(path) => is_shallow(part_of(path.depth)),
         ReportCommand::LinkPath(path, _) => is_shallow(part_of(path.depth)),
-        ReportCommand::DeletePath(_) => false,
-        ReportCommand::FinishReport => false,
-        ReportCommand::AbortReport => false,
-    }
-}
-
-fn reports_left_out(command: &ReportCommand) -> bool
-    ensures { result ≡ reports is_left_out (report_as command.now) }
-{
-    match command {
-        ReportCommand::SetPath(path) => is_left_out(part_of(path.depth)),
-        ReportCommand::LinkPath(path, _) => is_left_out(part_of(path.depth)),
         ReportCommand::DeletePath(_) => false,
         ReportCommand::FinishReport => false,
         ReportCommand::AbortReport => false,
@@ -332,14 +352,5 @@ fn is_shallow(part: Part) -> bool
         Part::Within(Depth::Immediates) => true,
         Part::Within(Depth::Infinity) => false,
         Part::LeftOut => false,
-    }
-}
-
-fn is_left_out(part: Part) -> bool
-    ensures { result ≡ is_left_out part }
-{
-    match part {
-        Part::Within(_) => false,
-        Part::LeftOut => true,
     }
 }

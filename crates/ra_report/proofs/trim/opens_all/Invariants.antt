@@ -2,7 +2,7 @@ use Rattle.std.proofs.Common.{◌≡◌, drop, map}
 use Rattle.std.specs.List.{list_any}
 use Rattle.browse_wire.specs.Reports.{report_as}
 use Rattle.ra_report.specs.Trimmed.{is_shallow, reports}
-use Rattle.ra_report.proofs.trim.any_is_shallow.Given as goal
+use Rattle.ra_report.proofs.trim.opens_all.Given as goal
 
 abbrev pub invariant-loop-command : goal.invariant-loop-command
 invariant-loop-command l =

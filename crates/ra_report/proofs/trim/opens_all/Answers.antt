@@ -1,7 +1,7 @@
 use Rattle.std.proofs.Common.{◌∙◌, sym}
 use Rattle.ra_report.specs.Trimmed.{is_shallow, reports}
 use Rattle.ra_report.proofs.Trims.{none_holds, one_holds, all_stay}
-use Rattle.ra_report.proofs.trim.any_is_shallow.Goals as goal
+use Rattle.ra_report.proofs.trim.opens_all.Goals as goal
 
 pub loop-command-preserved : goal.loop-command-preserved
 loop-command-preserved c =
