@@ -17,18 +17,6 @@ const EMPTY: &[u8] =
     14:svn:entry:uuid ( 36:6a1f0c3e-0000-4000-8000-0000000000a1 ) ) ) ( close-dir ( 2:t0 ) ) ( close-edit ( \
     ) ) ";
 
-// The root and what is in it.
-const NEAR: &[u8] =
-    b"( target-rev ( 3 ) ) ( open-root ( ( 1 ) 2:t0 ) ) ( change-dir-prop ( 2:t0 23:svn:entry:committed-rev ( \
-    1:3 ) ) ) ( change-dir-prop ( 2:t0 24:svn:entry:committed-date ( 27:2020-01-01T00:50:00.023757Z ) ) ) ( \
-    change-dir-prop ( 2:t0 21:svn:entry:last-author ( 5:carol ) ) ) ( change-dir-prop ( 2:t0 \
-    14:svn:entry:uuid ( 36:6a1f0c3e-0000-4000-8000-0000000000a1 ) ) ) ( open-dir ( 5:trunk 2:t0 2:t1 ( 1 ) \
-    ) ) ( change-dir-prop ( 2:t1 23:svn:entry:committed-rev ( 1:3 ) ) ) ( change-dir-prop ( 2:t1 \
-    24:svn:entry:committed-date ( 27:2020-01-01T00:50:00.023757Z ) ) ) ( change-dir-prop ( 2:t1 \
-    21:svn:entry:last-author ( 5:carol ) ) ) ( change-dir-prop ( 2:t1 14:svn:entry:uuid ( \
-    36:6a1f0c3e-0000-4000-8000-0000000000a1 ) ) ) ( close-dir ( 2:t1 ) ) ( close-dir ( 2:t0 ) ) ( \
-    close-edit ( ) ) ";
-
 // What is in the root is added.
 const DEEPER: &[u8] =
     b"( target-rev ( 3 ) ) ( open-root ( ( 3 ) 2:t0 ) ) ( change-dir-prop ( 2:t0 23:svn:entry:committed-rev ( \
@@ -46,7 +34,7 @@ const DEEPER: &[u8] =
     close-edit ( ) ) ";
 
 // What a session at the root asks and reports, and the edit.
-const ROWS: [(&[u8], &[u8], &[u8]); 8] = [
+const ROWS: [(&[u8], &[u8], &[u8]); 7] = [
     // the folder alone, reported so or wanted so
     (
         b"( update ( ( 3 ) 0: true unknown false false ) )",
@@ -78,12 +66,6 @@ const ROWS: [(&[u8], &[u8], &[u8]); 8] = [
         b"( update ( ( 3 ) 0: true unknown false false ) )",
         b"( set-path ( 0: 1 false ( ) infinity ) ) ( set-path ( 5:trunk 1 false ( ) exclude ) ) ",
         EMPTY,
-    ),
-    // what is in the folder, and nothing below it
-    (
-        b"( update ( ( 3 ) 0: true immediates false false ) )",
-        b"( set-path ( 0: 1 false ( ) infinity ) ) ",
-        NEAR,
     ),
     // a folder that is made deeper
     (
