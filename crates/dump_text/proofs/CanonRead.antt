@@ -68,7 +68,7 @@ pub short_line : (name : List ℕ) (n : ℕ) → n < 2 ^ 64 → length name ≤ 
 short_line name n h e = omega (arith, length-append name (printed n), length-decimal-le 20 n (omega arith) (omega arith) h)
 
 abbrev pub numbered : ℕ → Head
-numbered n = record no_head { number = Some n }
+numbered n = record (no_head false) { number = Some n }
 
 abbrev pub blocked : ℕ → ℕ → Head
 blocked n len = record (numbered n) { prop_len = Some len }
@@ -76,7 +76,7 @@ blocked n len = record (numbered n) { prop_len = Some len }
 abbrev pub whole : ℕ → ℕ → Head
 whole n len = record (blocked n len) { content_len = Some len }
 
-number_says : (n : ℕ) → n ≤ 65535 → line_says no_head (codes "Revision-number: " ++ printed n) ≡ Ok (numbered n)
+number_says : (n : ℕ) → n ≤ 65535 → line_says (no_head false) (codes "Revision-number: " ++ printed n) ≡ Ok (numbered n)
 number_says n h = rw (printed_read n (omega arith), le_true n 65535 h) refl
 
 block_says : (n len : ℕ) → len < 2 ^ 64 → line_says (numbered n) (codes "Prop-content-length: " ++ printed len) ≡ Ok (blocked n len)
@@ -88,7 +88,7 @@ content_says n len h = rw (printed_read len h) refl
 abbrev pub entry_lines : ℕ → ℕ → List (List ℕ)
 entry_lines n len = (codes "Revision-number: " ++ printed n) ∷ (codes "Prop-content-length: " ++ printed len) ∷ (codes "Content-length: " ++ printed len) ∷ []
 
-pub entry_head : (n len : ℕ) → n ≤ 65535 → len < 2 ^ 64 → HeadOf no_head (entry_lines n len) (whole n len)
+pub entry_head : (n len : ℕ) → n ≤ 65535 → len < 2 ^ 64 → HeadOf (no_head false) (entry_lines n len) (whole n len)
 entry_head n len a b = (
   number_line (codes "Revision-number: ") n (omega arith) refl,
   omega (arith, length-append (codes "Revision-number: ") (printed n)),

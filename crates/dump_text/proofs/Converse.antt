@@ -1,5 +1,5 @@
 -- What is read is in the grammar.
-use Rattle.std.proofs.Common.{◌≡◌, ℕ, zero, suc, ◌+◌, ◌-◌, ◌≤◌, ◌<◌, ◌==◌, not, true, false, nat_lt, ◌⊎◌, inl, inr, List, [], ◌∷◌, ◌++◌, length, take, drop, get_or, eqb, Option, Some, None, Ok, Err, refl, sym, ap, subst, ◌∙◌, append_assoc, append-nil, length-append, arith}
+use Rattle.std.proofs.Common.{◌≡◌, ℕ, zero, suc, ◌+◌, ◌-◌, ◌≤◌, ◌<◌, ◌==◌, not, Bool, true, false, nat_lt, ◌⊎◌, inl, inr, List, [], ◌∷◌, ◌++◌, length, take, drop, get_or, eqb, Option, Some, None, Ok, Err, refl, sym, ap, subst, ◌∙◌, append_assoc, append-nil, length-append, arith}
 use Rattle.std.proofs.lemmas.Bool.{eqb-true, cases_lt}
 use Rattle.std.proofs.lemmas.Bool.Decides.{nat_tests}
 use Rattle.std.proofs.lemmas.List.{take_all, take_at, length-take}
@@ -10,10 +10,10 @@ use Rattle.node_base.proofs.BlockConverse.{read_is_block}
 use Rattle.std.specs.Option.{option_map}
 use Rattle.dump_text.specs.Headers.{same, version_in}
 use Rattle.dump_text.specs.Heads.{line_says, no_head}
-use Rattle.dump_text.specs.Forms.{fits_form, lengths_agree, lengths_fit, record_of, named_of, numbered_of, node_of, is_delta, part_of, whole_of, stage_after}
-use Rattle.dump_text.specs.Streams.{Stream, one_byte, Reads, Refuses, reading, fresh, begin, given, give, made, text_is, after_block, content, judged, said, line_is, is_line_place, is_between, is_between_at, sum_holds, versioned, of_prop_fault, of_block, NoLf, dump}
+use Rattle.dump_text.specs.Forms.{fits_form, lengths_agree, lengths_fit, record_of, named_of, numbered_of, node_of, node_with, is_delta, gives_delta, part_of, delta_of, whole_of, source_of, stage_after}
+use Rattle.dump_text.specs.Streams.{Stream, one_byte, Reads, Refuses, reading, fresh_by, begin, given, give, made, whole_text, text_is, after_block, content, judged, said, line_is, is_line_place, is_between, is_between_at, sum_holds, versioned, of_prop_fault, of_block, NoLf, dump_by}
 use Rattle.dump_text.specs.Laws.{FirstFault}
-use Rattle.dump_text.specs.Grammar.{lines_of, HeadOf, HasText, IsContent, Says, IsRecord, IsRecords, AreBlank, IsVersionLine, version_line, later_line, DumpOf, Dump, bytes_of}
+use Rattle.dump_text.specs.Grammar.{lines_of, HeadOf, HasText, IsContent, SaysNode, Says, IsRecord, IsRecords, AreBlank, IsVersionLine, version_line, later_line, DumpOf, DumpBy, bytes_of}
 use Rattle.dump_text.specs.declared.fault.DumpFault.{DumpFault}
 use Rattle.dump_text.specs.declared.fault.DumpFault.TheVariants.{BadVersion, BadHeader, BadLength, BadProps, BadSum, TooLong}
 use Rattle.dump_text.specs.declared.form.Stage.{Stage}
@@ -21,10 +21,14 @@ use Rattle.dump_text.specs.declared.form.Stage.TheVariants.{First}
 use Rattle.dump_text.specs.declared.head.Head.{Head}
 use Rattle.dump_text.specs.declared.record.DumpRecord.{DumpRecord}
 use Rattle.dump_text.specs.declared.record.PropPart.{PropPart}
+use Rattle.dump_text.specs.declared.record.TextPart.{TextPart}
+use Rattle.dump_text.specs.declared.record.TextPart.TheVariants.{Whole as AsWhole, Delta as AsDelta}
+use Rattle.dump_text.specs.declared.record.NodeRecord.{NodeRecord}
 use Rattle.dump_text.specs.declared.record.DumpRecord.TheVariants.{Identity, Revision}
 use Rattle.dump_text.specs.declared.state.Place.{Place}
 use Rattle.dump_text.specs.declared.state.Place.TheVariants as at
 use Rattle.dump_text.specs.declared.state.ReadState.{ReadState}
+use Rattle.dump_text.proofs.HeadModes.{heads_mode}
 use Rattle.dump_text.proofs.StreamRuns.{reading-append, reading-refused, reader, parts, line_ends, line_kept, line_too_long, text_kept, text_whole, block_piece}
 use Rattle.dump_text.proofs.Records.{follow, dump_read}
 use Rattle.dump_text.proofs.Written.{blanks_before}
@@ -131,7 +135,13 @@ some_is r rec e = cc
 none_some : (rec : DumpRecord) (G : Type 0) → None ≡ Some rec → G
 none_some rec G e = cc
 
-pub record_says : (h : Head) (props : Option PropPart) (text : Option (List ℕ)) (rec : DumpRecord) → record_of h props text ≡ Some rec → Says h props text rec
+-- a node with what is given of its text
+says_with : (h : Head) (props : Option PropPart) (node : NodeRecord) (text : Option TextPart) → SaysNode h props node → node.text ≡ None → Says h props text (node_with node text)
+says_with h props node None says none = (says, ap (λ t. option_map AsWhole t) (sym none))
+says_with h props node (Some (AsWhole t)) says none = (says, refl)
+says_with h props node (Some (AsDelta d)) says none = (says, none, refl)
+
+pub record_says : (h : Head) (props : Option PropPart) (text : Option TextPart) (rec : DumpRecord) → record_of h props text ≡ Some rec → Says h props text rec
 record_says h props text rec e =
     elim h.identity as (λ o. h.identity ≡ o → named_of h props text o ≡ Some rec → Says h props text rec) [
       | Some id ↦ λ i e. subst (Says h props text) (some_is (Identity id) rec e) i
@@ -148,19 +158,21 @@ record_says h props text rec e =
                   | Some path ↦ λ k e.
                       elim h.action as (λ o. h.action ≡ o → node_of h props text (Some path) o ≡ Some rec → Says h props text rec) [
                         | None ↦ λ l e. none_some rec _ e
-                        | Some action ↦ λ l e. subst (Says h props text) (some_is _ rec e) (i, j, k, refl, l, refl, refl, refl)
+                        | Some action ↦ λ l e.
+                            let node : NodeRecord = record { path = path; kind = h.kind; action = action; source = source_of h.source_path h.source_revision; props = props; text = None } in
+                            subst (Says h props text) (some_is (node_with node text) rec e) (says_with h props node text (i, j, k, refl, l, refl, refl) refl)
                       ] refl e
                 ] refl e
           ] refl e
     ] refl e
 
 -- a record, and what is read behind it
-pub record Given (rs : List DumpRecord) (v : ℕ) (i : Stage) (h : Head) (props : Option PropPart) (text : Option (List ℕ)) (rest : List ℕ) (out : List DumpRecord) (last : ReadState) : Type 0 where
+pub record Given (rs : List DumpRecord) (v : ℕ) (i : Stage) (h : Head) (props : Option PropPart) (text : Option TextPart) (rest : List ℕ) (out : List DumpRecord) (last : ReadState) : Type 0 where
   pub rec : DumpRecord
   pub says : Says h props text rec
-  pub next : Ends (reading (follow rs v i rec) rest) out last
+  pub next : Ends (reading (follow h.deltas rs v i rec) rest) out last
 
-given_from : (rs : List DumpRecord) (r : ReadState) (props : Option PropPart) (text : Option (List ℕ)) (rest : List ℕ) (out : List DumpRecord) (last : ReadState) → Ends (reading (give rs r props text) rest) out last → Given rs r.version r.stage r.head props text rest out last
+given_from : (rs : List DumpRecord) (r : ReadState) (props : Option PropPart) (text : Option TextPart) (rest : List ℕ) (out : List DumpRecord) (last : ReadState) → Ends (reading (give rs r props text) rest) out last → Given rs r.version r.stage r.head props text rest out last
 given_from rs r props text rest out last e =
     elim (record_of r.head props text) as (λ o. record_of r.head props text ≡ o → Ends (reading (given rs r o) rest) out last → Given rs r.version r.stage r.head props text rest out last) [
       | None ↦ λ o e. never rs out BadHeader last rest _ e
@@ -170,21 +182,31 @@ given_from rs r props text rest out last e =
 -- ---- a text
 
 pub record Worded (rs : List DumpRecord) (v : ℕ) (i : Stage) (h : Head) (props : Option PropPart) (bs : List ℕ) (out : List DumpRecord) (last : ReadState) : Type 0 where
-  pub text : Option (List ℕ)
+  pub text : Option TextPart
   pub rest : List ℕ
   pub front : bs ≡ bytes_of text ++ rest
   pub words : HasText h text
   pub whole : Given rs v i h props text rest out last
 
-text_from : (rs : List DumpRecord) (r : ReadState) (props : Option PropPart) (text rest : List ℕ) (out : List DumpRecord) (last : ReadState) → Ends (reading (text_is rs r props text) rest) out last → (sum_holds r.head.sum text ≡ true) × Given rs r.version r.stage r.head props (Some text) rest out last
-text_from rs r props text rest out last e =
-    elim (sum_holds r.head.sum text) as (λ t. sum_holds r.head.sum text ≡ t → Ends (reading (if t then made rs r props text else Refuses rs BadSum) rest) out last → (sum_holds r.head.sum text ≡ true) × Given rs r.version r.stage r.head props (Some text) rest out last) [
+whole_from : (rs : List DumpRecord) (r : ReadState) (props : Option PropPart) (text rest : List ℕ) (out : List DumpRecord) (last : ReadState) → Ends (reading (whole_text rs r props text) rest) out last → (sum_holds r.head.sum text ≡ true) × Given rs r.version r.stage r.head props (Some (AsWhole text)) rest out last
+whole_from rs r props text rest out last e =
+    elim (sum_holds r.head.sum text) as (λ t. sum_holds r.head.sum text ≡ t → Ends (reading (if t then made rs r props text else Refuses rs BadSum) rest) out last → (sum_holds r.head.sum text ≡ true) × Given rs r.version r.stage r.head props (Some (AsWhole text)) rest out last) [
       | true ↦ λ t e.
-          elim (nat_lt 1048576 (length text)) as (λ b. Ends (reading (if b then Refuses rs TooLong else give rs r props (Some text)) rest) out last → (sum_holds r.head.sum text ≡ true) × Given rs r.version r.stage r.head props (Some text) rest out last) [
+          elim (nat_lt 1048576 (length text)) as (λ b. Ends (reading (if b then Refuses rs TooLong else give rs r props (Some (AsWhole text))) rest) out last → (sum_holds r.head.sum text ≡ true) × Given rs r.version r.stage r.head props (Some (AsWhole text)) rest out last) [
             | true ↦ λ e. never rs out TooLong last rest _ e
-            | false ↦ λ e. (t, given_from rs r props (Some text) rest out last e)
+            | false ↦ λ e. (t, given_from rs r props (Some (AsWhole text)) rest out last e)
           ] e
       | false ↦ λ t e. never rs out BadSum last rest _ e
+    ] refl e
+
+text_from : (rs : List DumpRecord) (r : ReadState) (props : Option PropPart) (text rest : List ℕ) (out : List DumpRecord) (last : ReadState) → r.head.text_len ≡ Some (length text) → Ends (reading (text_is rs r props text) rest) out last → Worded rs r.version r.stage r.head props (text ++ rest) out last
+text_from rs r props text rest out last len e =
+    let delta = delta_of r.head text in
+    elim (gives_delta r.head) as (λ g. gives_delta r.head ≡ g → Ends (reading (if g then give rs r props (Some (AsDelta delta)) else whole_text rs r props text) rest) out last → Worded rs r.version r.stage r.head props (text ++ rest) out last) [
+      | true ↦ λ g e. record { text = Some (AsDelta delta); rest = rest; front = refl; words = (g, len, refl, refl); whole = given_from rs r props (Some (AsDelta delta)) rest out last e }
+      | false ↦ λ g e.
+          let x = whole_from rs r props text rest out last e in
+          record { text = Some (AsWhole text); rest = rest; front = refl; words = (g, len, x.0); whole = x.1 }
     ] refl e
 
 pub not_eq : (a b : ℕ) → (a == b) ≡ false → a ≡ b → ⊥
@@ -204,8 +226,8 @@ some_text rs r props n bs out last some len e =
           let rest = drop (k + 1) bs in
           let all : bs ≡ text ++ rest = sym (append_assoc (take k bs) (get_or bs k 0 ∷ []) rest ∙ parts bs k (omega arith)) in
           let long : length text ≡ n = omega (arith, length-append (take k bs) (get_or bs k 0 ∷ []), length-take k bs) in
-          let t = text_from rs r-2 props text rest out last (sym (text_whole rs r-2 n k bs refl (omega arith) (λ q. omega arith) (omega arith)) ∙ e.0, e.1) in
-          record { text = Some text; rest = rest; front = all; words = (len ∙ ap Some (sym long), t.0); whole = t.1 }
+          subst (λ y. Worded rs r.version r.stage r.head props y out last) (sym all)
+          (text_from rs r-2 props text rest out last (len ∙ ap Some (sym long)) (sym (text_whole rs r-2 n k bs refl (omega arith) (λ q. omega arith) (omega arith)) ∙ e.0, e.1))
     ]
 
 after_block_from : (rs : List DumpRecord) (r : ReadState) (props : Option PropPart) (bs : List ℕ) (out : List DumpRecord) (last : ReadState) → Ends (reading (after_block rs r props) bs) out last → Worded rs r.version r.stage r.head props bs out last
@@ -214,9 +236,7 @@ after_block_from rs r props bs out last e =
       | None ↦ λ o e. record { text = None; rest = bs; front = refl; words = o; whole = given_from rs r props None bs out last e }
       | Some n ↦ λ o e.
           elim (n == 0) as (λ t. (n == 0) ≡ t → Ends (reading (if t then text_is rs r props [] else Reads rs (record r { place = at.Text n; props = props; held = [] })) bs) out last → Worded rs r.version r.stage r.head props bs out last) [
-            | true ↦ λ t e.
-                let x = text_from rs r props [] bs out last e in
-                record { text = Some []; rest = bs; front = refl; words = (o ∙ ap Some (eqb-true n 0 t), x.0); whole = x.1 }
+            | true ↦ λ t e. text_from rs r props [] bs out last (o ∙ ap Some (eqb-true n 0 t)) e
             | false ↦ λ t e. some_text rs r props n bs out last (omega (arith, not_eq n 0 t)) o e
           ] refl e
     ] refl e
@@ -227,7 +247,7 @@ pub record Filled (rs : List DumpRecord) (v : ℕ) (i : Stage) (h : Head) (bs : 
   pub body : List ℕ
   pub rest : List ℕ
   pub props : Option PropPart
-  pub text : Option (List ℕ)
+  pub text : Option TextPart
   pub front : bs ≡ body ++ rest
   pub content : IsContent h body props text
   pub whole : Given rs v i h props text rest out last
@@ -340,14 +360,14 @@ head_from (suc n) rs v i h bs out last size e =
 
 -- ---- records
 
-pub record Told (rs : List DumpRecord) (v : ℕ) (i : Stage) (bs : List ℕ) (out : List DumpRecord) : Type 0 where
+pub record Told (d : Bool) (rs : List DumpRecord) (v : ℕ) (i : Stage) (bs : List ℕ) (out : List DumpRecord) : Type 0 where
   pub recs : List DumpRecord
   pub all : out ≡ rs ++ recs
-  pub spelled : IsRecords v i bs recs
+  pub spelled : IsRecords d v i bs recs
 
-module _ (rs : List DumpRecord) (v : ℕ) (i : Stage) (bs : List ℕ) (out : List DumpRecord) (last : ReadState) (n : ℕ) (ih : (rs : List DumpRecord) (i : Stage) (rest : List ℕ) → length rest ≤ n → Ends (reading (Reads rs (begin v at.Between i)) rest) out last → Told rs v i rest out) where
+module _ (d : Bool) (rs : List DumpRecord) (v : ℕ) (i : Stage) (bs : List ℕ) (out : List DumpRecord) (last : ReadState) (n : ℕ) (ih : (rs : List DumpRecord) (i : Stage) (rest : List ℕ) → length rest ≤ n → Ends (reading (Reads rs (begin d v at.Between i)) rest) out last → Told d rs v i rest out) where
   -- a record behind its first line
-  one_record : (line rest : List ℕ) (next : Head) → bs ≡ line ++ 10 ∷ rest → length bs ≤ suc n → NoLf line → 0 < length line → length line ≤ 4096 → line_says no_head line ≡ Ok next → Headed rs v i next rest out last → Told rs v i bs out
+  one_record : (line rest : List ℕ) (next : Head) → bs ≡ line ++ 10 ∷ rest → length bs ≤ suc n → NoLf line → 0 < length line → length line ≤ 4096 → line_says (no_head d) line ≡ Ok next → Headed rs v i next rest out last → Told d rs v i bs out
   one_record line rest next is size lone some short says x =
       let f = x.filled in
       let g = f.whole in
@@ -355,36 +375,37 @@ module _ (rs : List DumpRecord) (v : ℕ) (i : Stage) (bs : List ℕ) (out : Lis
       let first = lines_of lines ++ 10 ∷ f.body in
       let spelled : bs ≡ first ++ f.rest = is ∙ ap (λ y. line ++ 10 ∷ y) (x.spelled ∙ ap (λ y. lines_of x.lines ++ 10 ∷ y) f.front) ∙ text line (lines_of x.lines) f.body f.rest in
       let small : length f.rest ≤ n = omega (arith, shorter n bs line rest size is, ap length x.spelled, length-append (lines_of x.lines) (10 ∷ x.after), ap length f.front, length-append f.body f.rest) in
-      let later = ih (rs ++ g.rec ∷ []) (stage_after i g.rec) f.rest small g.next in
-      let whole : IsRecord v i first g.rec = record { lines = lines; head = x.whole; body = f.body; props = f.props; text = f.text; some = omega arith; spelled = refl; headers = (lone, some, short, next, says, x.headers); form = x.form; agree = x.agree; fit = x.fit; content = f.content; says = g.says } in
+      let same : x.whole.deltas ≡ d = heads_mode (no_head d) lines x.whole (lone, some, short, next, says, x.headers) in
+      let later = ih (rs ++ g.rec ∷ []) (stage_after i g.rec) f.rest small (subst (λ m. Ends (reading (follow m rs v i g.rec) f.rest) out last) same g.next) in
+      let whole : IsRecord d v i first g.rec = record { lines = lines; head = x.whole; body = f.body; props = f.props; text = f.text; some = omega arith; spelled = refl; headers = (lone, some, short, next, says, x.headers); form = x.form; agree = x.agree; fit = x.fit; content = f.content; says = g.says } in
       record { recs = g.rec ∷ later.recs; all = later.all ∙ append_assoc rs (g.rec ∷ []) later.recs; spelled = ([], first, f.rest, tt, whole, later.spelled, spelled) }
     where
       text : (a b c d : List ℕ) → a ++ 10 ∷ (b ++ 10 ∷ (c ++ d)) ≡ ((a ++ 10 ∷ b) ++ 10 ∷ c) ++ d
       text a b c d = simp append_assoc refl
 
-  record_line : (line rest : List ℕ) → bs ≡ line ++ 10 ∷ rest → length bs ≤ suc n → NoLf line → length line ≤ 4096 → Ends (reading (line_is at.Between rs (begin v at.Between i) line) rest) out last → Told rs v i bs out
+  record_line : (line rest : List ℕ) → bs ≡ line ++ 10 ∷ rest → length bs ≤ suc n → NoLf line → length line ≤ 4096 → Ends (reading (line_is at.Between rs (begin d v at.Between i) line) rest) out last → Told d rs v i bs out
   record_line [] rest is size lone short e =
       let later = ih rs i rest (shorter n bs [] rest size is) e in
-      record { recs = later.recs; all = later.all; spelled = subst (λ y. IsRecords v i y later.recs) (sym is) (blanks_before v i (10 ∷ []) rest later.recs (refl, tt) later.spelled) }
+      record { recs = later.recs; all = later.all; spelled = subst (λ y. IsRecords d v i y later.recs) (sym is) (blanks_before d v i (10 ∷ []) rest later.recs (refl, tt) later.spelled) }
   record_line (b ∷ s) rest is size lone short e =
-      elim (line_says no_head (b ∷ s)) as (λ o. line_says no_head (b ∷ s) ≡ o → Ends (reading (said rs (begin v at.Between i) o) rest) out last → Told rs v i bs out) [
+      elim (line_says (no_head d) (b ∷ s)) as (λ o. line_says (no_head d) (b ∷ s) ≡ o → Ends (reading (said rs (begin d v at.Between i) o) rest) out last → Told d rs v i bs out) [
         | Err f ↦ λ o e. never rs out f last rest _ e
         | Ok next ↦ λ o e. one_record (b ∷ s) rest next is size lone (omega arith) short o (head_from (length rest) rs v i next rest out last (omega arith) e)
       ] refl e
 
-no_records : (rs : List DumpRecord) (v : ℕ) (i : Stage) (bs : List ℕ) (out : List DumpRecord) → bs ≡ [] → out ≡ rs → Told rs v i bs out
-no_records rs v i bs out e f = record { recs = []; all = f ∙ sym (append-nil rs); spelled = subst AreBlank (sym e) tt }
+no_records : (d : Bool) (rs : List DumpRecord) (v : ℕ) (i : Stage) (bs : List ℕ) (out : List DumpRecord) → bs ≡ [] → out ≡ rs → Told d rs v i bs out
+no_records d rs v i bs out e f = record { recs = []; all = f ∙ sym (append-nil rs); spelled = subst AreBlank (sym e) tt }
 
-records_from : (n : ℕ) (v : ℕ) (out : List DumpRecord) (last : ReadState) (rs : List DumpRecord) (i : Stage) (bs : List ℕ) → length bs ≤ n → Ends (reading (Reads rs (begin v at.Between i)) bs) out last → Told rs v i bs out
-records_from zero v out last rs i bs size e =
-    elim (a_line at.Between refl rs v i no_head out last bs e) [
-      | inl x ↦ no_records rs v i bs out x.0 x.1
+records_from : (d : Bool) (n : ℕ) (v : ℕ) (out : List DumpRecord) (last : ReadState) (rs : List DumpRecord) (i : Stage) (bs : List ℕ) → length bs ≤ n → Ends (reading (Reads rs (begin d v at.Between i)) bs) out last → Told d rs v i bs out
+records_from d zero v out last rs i bs size e =
+    elim (a_line at.Between refl rs v i (no_head d) out last bs e) [
+      | inl x ↦ no_records d rs v i bs out x.0 x.1
       | inr l ↦ nothing_less bs l.line l.rest _ size l.is
     ]
-records_from (suc n) v out last rs i bs size e =
-    elim (a_line at.Between refl rs v i no_head out last bs e) [
-      | inl x ↦ no_records rs v i bs out x.0 x.1
-      | inr l ↦ record_line rs v i bs out last n (records_from n v out last) l.line l.rest l.is size l.lone l.short l.next
+records_from d (suc n) v out last rs i bs size e =
+    elim (a_line at.Between refl rs v i (no_head d) out last bs e) [
+      | inl x ↦ no_records d rs v i bs out x.0 x.1
+      | inr l ↦ record_line d rs v i bs out last n (records_from d n v out last) l.line l.rest l.is size l.lone l.short l.next
     ]
 
 -- ---- the version block
@@ -395,9 +416,9 @@ same_is [] (y ∷ b) e = cc
 same_is (x ∷ a) [] e = cc
 same_is (x ∷ a) (y ∷ b) e = let p = both (eqb x y) (same a b) e in cc (eqb-true x y p.0, same_is a b p.1)
 
-blank_line : (v : ℕ) (line rest : List ℕ) (out : List DumpRecord) (last : ReadState) → Ends (reading (line_is at.Blank [] (reader v at.Blank First no_head (new_block 0) None []) line) rest) out last → (line ≡ []) × Told [] v First rest out
-blank_line v [] rest out last e = (refl, records_from (length rest) v out last [] First rest (omega arith) e)
-blank_line v (b ∷ s) rest out last e = never [] out BadHeader last rest _ e
+blank_line : (d : Bool) (v : ℕ) (line rest : List ℕ) (out : List DumpRecord) (last : ReadState) → Ends (reading (line_is at.Blank [] (reader v at.Blank First (no_head d) (new_block 0) None []) line) rest) out last → (line ≡ []) × Told d [] v First rest out
+blank_line d v [] rest out last e = (refl, records_from d (length rest) v out last [] First rest (omega arith) e)
+blank_line d v (b ∷ s) rest out last e = never [] out BadHeader last rest _ e
 
 some_number : (a b : ℕ) → Some a ≡ Some b → a ≡ b
 some_number a b e = cc
@@ -418,36 +439,36 @@ names_format line v e =
     ] refl e
 
 -- the version never changes
-behind_version : (line bs rest : List ℕ) (out : List DumpRecord) (last : ReadState) → bs ≡ line ++ 10 ∷ rest → Ends (reading (line_is at.Version [] (reader 0 at.Version First no_head (new_block 0) None []) line) rest) out last → Dump bs out
-behind_version line bs rest out last is e =
-    elim (version_in line) as (λ o. version_in line ≡ o → Ends (reading (versioned [] (reader 0 at.Version First no_head (new_block 0) None []) o) rest) out last → Dump bs out) [
+behind_version : (d : Bool) (line bs rest : List ℕ) (out : List DumpRecord) (last : ReadState) → bs ≡ line ++ 10 ∷ rest → Ends (reading (line_is at.Version [] (reader 0 at.Version First (no_head d) (new_block 0) None []) line) rest) out last → DumpBy d bs out
+behind_version d line bs rest out last is e =
+    elim (version_in line) as (λ o. version_in line ≡ o → Ends (reading (versioned [] (reader 0 at.Version First (no_head d) (new_block 0) None []) o) rest) out last → DumpBy d bs out) [
       | None ↦ λ o e. never [] out BadVersion last rest _ e
       | Some v ↦ λ o e.
-          elim (a_line at.Blank refl [] v First no_head out last rest e) [
+          elim (a_line at.Blank refl [] v First (no_head d) out last rest e) [
             | inl x ↦ absurd (not_true x.2)
             | inr l ↦
-                let b = blank_line v l.line l.rest out last l.next in
+                let b = blank_line d v l.line l.rest out last l.next in
                 let whole : bs ≡ line ++ 10 ∷ 10 ∷ l.rest = is ∙ ap (λ y. line ++ 10 ∷ y) (l.is ∙ ap (λ y. y ++ 10 ∷ l.rest) b.0) in
-                (v, (line, l.rest, names_format line v o, whole, subst (IsRecords v First l.rest) (sym b.1.all) b.1.spelled))
+                (v, (line, l.rest, names_format line v o, whole, subst (IsRecords d v First l.rest) (sym b.1.all) b.1.spelled))
           ]
     ] refl e
 
 -- bytes that are read to an end are a dump of what was read
-pub read_is_some_dump : (bytes : List ℕ) (rs : List DumpRecord) (last : ReadState) → dump bytes ≡ Reads rs last → is_between last ≡ true → Dump bytes rs
-read_is_some_dump bytes rs last e b =
-    elim (a_line at.Version refl [] 0 First no_head rs last bytes (e, b)) [
+pub read_is_some_dump : (d : Bool) (bytes : List ℕ) (rs : List DumpRecord) (last : ReadState) → dump_by d bytes ≡ Reads rs last → is_between last ≡ true → DumpBy d bytes rs
+read_is_some_dump d bytes rs last e b =
+    elim (a_line at.Version refl [] 0 First (no_head d) rs last bytes (e, b)) [
       | inl x ↦ absurd (not_true x.2)
-      | inr l ↦ behind_version l.line bytes l.rest rs last l.is l.next
+      | inr l ↦ behind_version d l.line bytes l.rest rs last l.is l.next
     ]
 
 same_version : (version : ℕ) (rs others : List DumpRecord) (state last : ReadState) → Reads others state ≡ Reads rs last → state.version ≡ version → version ≡ last.version
 same_version version rs others state last e v = let s : state ≡ last = cc in sym v ∙ ap (λ (r : ReadState). r.version) s
 
 -- of the format that was read
-pub read_is_dump : (bytes : List ℕ) (rs : List DumpRecord) (last : ReadState) → dump bytes ≡ Reads rs last → is_between last ≡ true → DumpOf last.version bytes rs
-read_is_dump bytes rs last e b =
-    let d = read_is_some_dump bytes rs last e b in
-    subst (λ v. DumpOf v bytes rs) (same_version d.0 rs rs _ last (sym (dump_read d.0 bytes rs d.1) ∙ e) refl) d.1
+pub read_is_dump : (d : Bool) (bytes : List ℕ) (rs : List DumpRecord) (last : ReadState) → dump_by d bytes ≡ Reads rs last → is_between last ≡ true → DumpOf d last.version bytes rs
+read_is_dump d bytes rs last e b =
+    let x = read_is_some_dump d bytes rs last e b in
+    subst (λ v. DumpOf d v bytes rs) (same_version x.0 rs rs _ last (sym (dump_read d x.0 bytes rs x.1) ∙ e) refl) x.1
 
 -- ---- the first refused byte
 
@@ -474,11 +495,11 @@ byte_of rs r (b ∷ bs) out f e =
           record { front = b ∷ x.front; byte = x.byte; more = x.more; whole = ap (λ y. b ∷ y) x.whole; before = x.before; state = x.state; reads = ap (λ s. reading s x.front) o ∙ x.reads; refuses = x.refuses }
     ] refl e
 
-pub first_fault : (bytes : List ℕ) (rs : List DumpRecord) (f : DumpFault) → dump bytes ≡ Refuses rs f → FirstFault bytes rs f
-first_fault bytes rs f e =
-    let x = byte_of [] fresh bytes rs f e in
-    record { front = x.front; byte = x.byte; more = x.more; whole = x.whole; before = x.before; state = x.state; reads = x.reads; refuses = reading-append (Reads [] fresh) x.front (x.byte ∷ []) ∙ ap (λ s. one_byte s x.byte) x.reads ∙ x.refuses }
+pub first_fault : (d : Bool) (bytes : List ℕ) (rs : List DumpRecord) (f : DumpFault) → dump_by d bytes ≡ Refuses rs f → FirstFault d bytes rs f
+first_fault d bytes rs f e =
+    let x = byte_of [] (fresh_by d) bytes rs f e in
+    record { front = x.front; byte = x.byte; more = x.more; whole = x.whole; before = x.before; state = x.state; reads = x.reads; refuses = reading-append (Reads [] (fresh_by d)) x.front (x.byte ∷ []) ∙ ap (λ s. one_byte s x.byte) x.reads ∙ x.refuses }
 
-pub no_front : (bytes more : List ℕ) (rs others : List DumpRecord) (f : DumpFault) → dump bytes ≡ Refuses rs f → Dump (bytes ++ more) others → ⊥
-no_front bytes more rs others f e (version, d) =
-    reads_never others rs _ f _ (sym (dump_read version (bytes ++ more) others d) ∙ reading-append (Reads [] fresh) bytes more ∙ ap (λ s. reading s more) e ∙ reading-refused rs f more)
+pub no_front : (d : Bool) (bytes more : List ℕ) (rs others : List DumpRecord) (f : DumpFault) → dump_by d bytes ≡ Refuses rs f → DumpBy d (bytes ++ more) others → ⊥
+no_front d bytes more rs others f e (version, x) =
+    reads_never others rs _ f _ (sym (dump_read d version (bytes ++ more) others x) ∙ reading-append (Reads [] (fresh_by d)) bytes more ∙ ap (λ s. reading s more) e ∙ reading-refused rs f more)

@@ -4,7 +4,7 @@ use Rattle.std.specs.Bool.{if◌then◌else◌}
 use Rattle.node_base.specs.Blocks.{Step, block_step, begun, new_block, Next, Whole, Refused}
 use Rattle.dump_text.specs.Headers.{version_in}
 use Rattle.dump_text.specs.Heads.{line_says}
-use Rattle.dump_text.specs.Forms.{record_of, fits_form, lengths_agree, lengths_fit, is_delta, part_of}
+use Rattle.dump_text.specs.Forms.{record_of, fits_form, lengths_agree, lengths_fit, is_delta, gives_delta, part_of, delta_of}
 use Rattle.dump_text.specs.declared.fault.DumpFault.{DumpFault}
 use Rattle.dump_text.specs.declared.fault.DumpFault.TheVariants.{BadProps}
 use Rattle.dump_text.specs.declared.head.Head.{Head}
@@ -12,6 +12,8 @@ use Rattle.dump_text.specs.declared.state.Place.{Place}
 use Rattle.dump_text.specs.declared.state.Place.TheVariants as at
 use Rattle.dump_text.specs.declared.record.DumpRecord.{DumpRecord}
 use Rattle.dump_text.specs.declared.record.PropPart.{PropPart}
+use Rattle.dump_text.specs.declared.record.TextPart.{TextPart}
+use Rattle.dump_text.specs.declared.record.TextPart.TheVariants.{Whole as AsWhole, Delta as AsDelta}
 use Rattle.dump_text.specs.declared.state.ReadState.{ReadState}
 use Rattle.dump_text.specs.Streams.{Stream, Reads, Refuses, reading, one_byte, stream_step, line_step, block_said, said, given, give, text_is, after_block, content, judged, line_is, records_of, IsFront, versioned, sum_holds}
 
@@ -26,11 +28,13 @@ given_front : (rs : List DumpRecord) (r : ReadState) (rec : Option DumpRecord) �
 given_front rs r None = here rs
 given_front rs r (Some rec) = (rec ∷ [], refl)
 
-give_front : (rs : List DumpRecord) (r : ReadState) (props : Option PropPart) (text : Option (List ℕ)) → IsFront rs (give rs r props text)
+give_front : (rs : List DumpRecord) (r : ReadState) (props : Option PropPart) (text : Option TextPart) → IsFront rs (give rs r props text)
 give_front rs r props text = given_front rs r (record_of r.head props text)
 
 text_front : (rs : List DumpRecord) (r : ReadState) (props : Option PropPart) (text : List ℕ) → IsFront rs (text_is rs r props text)
-text_front rs r props text = if_front rs (sum_holds r.head.sum text) _ _ (if_front rs (nat_lt 1048576 (length text)) _ _ (here rs) (give_front rs r props (Some text))) (here rs)
+text_front rs r props text =
+    if_front rs (gives_delta r.head) _ _ (give_front rs r props (Some (AsDelta (delta_of r.head text))))
+    (if_front rs (sum_holds r.head.sum text) _ _ (if_front rs (nat_lt 1048576 (length text)) _ _ (here rs) (give_front rs r props (Some (AsWhole text)))) (here rs))
 
 after_block_front : (rs : List DumpRecord) (r : ReadState) (props : Option PropPart) → IsFront rs (after_block rs r props)
 after_block_front rs r props =

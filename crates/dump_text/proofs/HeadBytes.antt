@@ -1,13 +1,12 @@
 -- A header line brings no more bytes of paths than it has.
-use Rattle.std.proofs.Common.{◌≡◌, ℕ, suc, ◌==◌, ◌&&◌, ◌+◌, ◌≤◌, Bool, true, false, List, [], ◌∷◌, length, Option, Some, None, Ok, Err, Result, refl, ap, arith}
+use Rattle.std.proofs.Common.{◌≡◌, ℕ, suc, ◌==◌, ◌&&◌, not, ◌+◌, ◌≤◌, Bool, true, false, List, [], ◌∷◌, length, Option, Some, None, Ok, Err, Result, refl, ap, arith}
 use Rattle.std.specs.Bool.{if◌then◌else◌}
 use Rattle.std.specs.Prelude.{option_map, codes}
-use Rattle.hex.specs.Hex.{decode_sized}
 use Rattle.node_base.specs.Path.{Path}
 use Rattle.node_base.specs.Numbers.{decimal, rev_read}
 use Rattle.node_base.specs.PathText.{path_text, path_read}
 use Rattle.node_base.proofs.ReadBack.{spells_of_read}
-use Rattle.dump_text.specs.Headers.{same, split_line, split_after, name_more, known_name, dump_path, path_said, without_slash, kind_of, action_of, identity_of}
+use Rattle.dump_text.specs.Headers.{same, split_line, split_after, name_more, known_name, dump_path, path_said, without_slash, kind_of, action_of, identity_of, sum_of}
 use Rattle.dump_text.specs.Heads.{once, with_value, with_path, known_says, header_says, line_says}
 use Rattle.dump_text.specs.Streams.{path_bytes}
 use Rattle.dump_text.specs.declared.fault.DumpFault.{DumpFault}
@@ -78,10 +77,6 @@ is_put put new n h e =
     let is : put ≡ new = cc in
     omega (arith, h, ap paths is)
 
-sum_put : {E : Type 0} (r : Result (List ℕ) E) (put : List ℕ → Head) (n : ℕ) (new : Head) → ((s : List ℕ) → paths (put s) ≤ n) → elim r as (λ _. Result Head DumpFault) [ Ok sum ↦ Ok (put sum) | Err e ↦ Err BadHeader ] ≡ Ok new → paths new ≤ n
-sum_put (Ok s) put n new h e = is_put (put s) new n (h s) e
-sum_put (Err x) put n new h e = cc
-
 known_bytes : (name : HeaderName) (h : Head) (value : List ℕ) (new : Head) → known_says name h value ≡ Ok new → paths new ≤ paths h + length value
 known_bytes header.Identity h value new e = valued BadHeader (identity_of value) _ _ new (λ a. omega arith) (once_is h.identity _ new e).1
 known_bytes header.RevisionNumber h value new e = valued BadNumber (rev_read value) _ _ new (λ a. omega arith) (once_is h.number _ new e).1
@@ -97,12 +92,17 @@ known_bytes header.SourcePath h value new e =
 known_bytes header.PropLength h value new e = valued BadNumber (decimal value) _ _ new (λ a. omega arith) (once_is h.prop_len _ new e).1
 known_bytes header.TextLength h value new e = valued BadNumber (decimal value) _ _ new (λ a. omega arith) (once_is h.text_len _ new e).1
 known_bytes header.ContentLength h value new e = valued BadNumber (decimal value) _ _ new (λ a. omega arith) (once_is h.content_len _ new e).1
-known_bytes header.TextSum h value new e = sum_put (decode_sized value 16) (λ sum. record h { sum = Some sum }) _ new (λ a. omega arith) (once_is h.sum _ new e).1
-known_bytes header.TextDelta h value new e = text_delta (same value (codes "true")) (once_is h.text_delta _ new e).1
+known_bytes header.TextSum h value new e = valued BadHeader (sum_of value) _ _ new (λ a. omega arith) (once_is h.sum _ new e).1
+known_bytes header.TextDelta h value new e = text_delta (same value (codes "true") && not h.deltas) (same value (codes "true")) (once_is h.text_delta _ new e).1
   where
-    text_delta : (b : Bool) → (if b then Err TextDelta else Ok (record h { text_delta = Some false })) ≡ Ok new → paths new ≤ paths h + length value
-    text_delta true e = cc
-    text_delta false e = is_put (record h { text_delta = Some false }) new _ (omega arith) e
+    text_delta : (refused given : Bool) → (if refused then Err TextDelta else Ok (record h { text_delta = Some given })) ≡ Ok new → paths new ≤ paths h + length value
+    text_delta true given e = cc
+    text_delta false given e = is_put (record h { text_delta = Some given }) new _ (omega arith) e
+known_bytes header.BaseSum h value new e = base_sum h.deltas e
+  where
+    base_sum : (b : Bool) → (if b then once h.base_sum (with_value BadHeader (sum_of value) (λ sum. record h { base_sum = Some sum })) else Ok h) ≡ Ok new → paths new ≤ paths h + length value
+    base_sum true e = valued BadHeader (sum_of value) (λ sum. record h { base_sum = Some sum }) _ new (λ a. omega arith) (once_is h.base_sum _ new e).1
+    base_sum false e = is_put h new _ (omega arith) e
 known_bytes header.PropDelta h value new e = is_put (record h { prop_delta = Some (same value (codes "true")) }) new _ (omega arith) (once_is h.prop_delta _ new e).1
 
 header_bytes : (name : Option HeaderName) (h : Head) (value : List ℕ) (new : Head) → header_says name h value ≡ Ok new → paths new ≤ paths h + length value

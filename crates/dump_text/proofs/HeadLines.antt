@@ -1,5 +1,5 @@
 -- The header lines that are written of a node.
-use Rattle.std.proofs.Common.{◌≡◌, ℕ, ◌≤◌, ◌<◌, ◌^◌, true, List, [], ◌∷◌, ◌++◌, length, Option, Some, None, Ok, refl, sym, ap, ◌∙◌, append_assoc, length-append, arith}
+use Rattle.std.proofs.Common.{◌≡◌, ℕ, ◌≤◌, ◌<◌, ◌^◌, true, false, List, [], ◌∷◌, ◌++◌, length, Option, Some, None, Ok, refl, sym, ap, ◌∙◌, append_assoc, length-append, arith}
 use Rattle.std.specs.Prelude.{codes}
 use Rattle.std.specs.Fmt.{decimal as printed}
 use Rattle.hex.specs.Hex.{encode_lower}
@@ -10,14 +10,15 @@ use Rattle.node_base.specs.declared.node.Action.{Action}
 use Rattle.node_base.specs.declared.node.Action.TheVariants.{Modify, Add, Delete, Replace}
 use Rattle.node_base.specs.declared.node.NodeKind.{NodeKind}
 use Rattle.node_base.specs.declared.node.NodeKind.TheVariants.{File, Dir}
-use Rattle.dump_text.specs.Heads.{line_says, no_head}
+use Rattle.dump_text.specs.Heads.{line_says, no_head, with_value}
 use Rattle.dump_text.specs.Streams.{NoLf}
 use Rattle.dump_text.specs.Canon.{header_line, kind_line, action_word}
 use Rattle.dump_text.specs.Grammar.{lines_of, HeadOf}
+use Rattle.dump_text.specs.declared.fault.DumpFault.TheVariants.{BadHeader}
 use Rattle.dump_text.specs.declared.head.Head.{Head}
 use Rattle.dump_text.proofs.CanonRead.{lone_of, lone_append, number_line, short_line, printed_read, le_true}
 use Rattle.dump_text.proofs.PathLines.{lone_path, short_path, path_back}
-use Rattle.dump_text.proofs.SumLines.{lone_hex, sum_back, sum_length}
+use Rattle.dump_text.proofs.SumLines.{lone_hex, sum_read, sum_length}
 
 -- text that is header lines, from a head to another
 pub record Lines (h : Head) (text : List ℕ) (last : Head) : Type 0 where
@@ -63,18 +64,18 @@ ahead h mid last a text rest x y =
 
 -- the head of a node, field by field in the order of its lines
 abbrev pub node_head : Option Path → Option NodeKind → Option Action → Option ℕ → Option Path → Option ℕ → Option ℕ → Option (List ℕ) → Option ℕ → Head
-node_head path kind action rev from prop text sum content = record no_head { path = path; kind = kind; action = action; source_revision = rev; source_path = from; prop_len = prop; text_len = text; sum = sum; content_len = content }
+node_head path kind action rev from prop text sum content = record (no_head false) { path = path; kind = kind; action = action; source_revision = rev; source_path = from; prop_len = prop; text_len = text; sum = sum; content_len = content }
 
 short : (name value : List ℕ) → length name ≤ 100 → length value ≤ 1024 → length (name ++ value) ≤ 4096
 short name value a b = omega (arith, length-append name value)
 
-path_says : (p : Path) → is_path p ≡ true → line_says no_head (codes "Node-path: " ++ path_text p) ≡ Ok (node_head (Some p) None None None None None None None None)
+path_says : (p : Path) → is_path p ≡ true → line_says (no_head false) (codes "Node-path: " ++ path_text p) ≡ Ok (node_head (Some p) None None None None None None None None)
 path_says p e = rw (path_back p e) refl
 
-pub path_lines : (p : Path) → is_path p ≡ true → Lines no_head (header_line (codes "Node-path: ") (path_text p)) (node_head (Some p) None None None None None None None None)
+pub path_lines : (p : Path) → is_path p ≡ true → Lines (no_head false) (header_line (codes "Node-path: ") (path_text p)) (node_head (Some p) None None None None None None None None)
 path_lines p e =
     let name = codes "Node-path: " in
-    one no_head _ name (path_text p) (lone_append name (path_text p) (lone_of name refl) (lone_path p e)) (omega arith) (short name (path_text p) (omega arith) (short_path p e)) (path_says p e)
+    one (no_head false) _ name (path_text p) (lone_append name (path_text p) (lone_of name refl) (lone_path p e)) (omega arith) (short name (path_text p) (omega arith) (short_path p e)) (path_says p e)
 
 pub kind_lines : (p : Path) (kind : Option NodeKind) → Lines (node_head (Some p) None None None None None None None None) (kind_line kind) (node_head (Some p) kind None None None None None None None)
 kind_lines p None = none _
@@ -116,7 +117,7 @@ module _ (p : Path) (kind : Option NodeKind) (action : Action) where
     text_says prop n h = rw (printed_read n h) refl
 
     sum_says : (prop : Option ℕ) (n : ℕ) (text : List ℕ) → line_says (node_head (Some p) kind (Some action) rev from prop (Some n) None None) (codes "Text-content-md5: " ++ encode_lower (md5 text)) ≡ Ok (node_head (Some p) kind (Some action) rev from prop (Some n) (Some (md5 text)) None)
-    sum_says prop n text = rw (sum_back text) refl
+    sum_says prop n text = ap (λ o. with_value BadHeader o (λ s. node_head (Some p) kind (Some action) rev from prop (Some n) (Some s) None)) (sum_read text)
 
     pub text_lines_are : (prop : Option ℕ) (text : List ℕ) → length text < 2 ^ 64 → Lines (node_head (Some p) kind (Some action) rev from prop None None None) (header_line (codes "Text-content-length: ") (printed (length text)) ++ header_line (codes "Text-content-md5: ") (encode_lower (md5 text))) (node_head (Some p) kind (Some action) rev from prop (Some (length text)) (Some (md5 text)) None)
     text_lines_are prop text h =

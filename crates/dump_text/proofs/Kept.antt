@@ -9,7 +9,7 @@ use Rattle.node_base.specs.Blocks.{Step, Next, Whole, Refused, block_step, begun
 use Rattle.node_base.proofs.BlockKept.{begun_bytes, step_bytes, block_bytes}
 use Rattle.dump_text.specs.Headers.{version_in}
 use Rattle.dump_text.specs.Heads.{line_says}
-use Rattle.dump_text.specs.Forms.{record_of, fits_form, lengths_agree, lengths_fit, is_delta, part_of, stage_after}
+use Rattle.dump_text.specs.Forms.{record_of, fits_form, lengths_agree, lengths_fit, is_delta, gives_delta, part_of, delta_of, stage_after}
 use Rattle.dump_text.specs.declared.fault.DumpFault.{DumpFault}
 use Rattle.dump_text.specs.declared.fault.DumpFault.TheVariants.{BadProps, Failed}
 use Rattle.dump_text.specs.declared.form.Stage.{Stage}
@@ -18,6 +18,7 @@ use Rattle.dump_text.specs.declared.state.Place.{Place}
 use Rattle.dump_text.specs.declared.state.Place.TheVariants as at
 use Rattle.dump_text.specs.declared.record.DumpRecord.{DumpRecord}
 use Rattle.dump_text.specs.declared.record.PropPart.{PropPart}
+use Rattle.dump_text.specs.declared.record.TextPart.TheVariants.{Whole as AsWhole, Delta as AsDelta}
 use Rattle.dump_text.specs.declared.state.ReadState.{ReadState}
 use Rattle.dump_text.specs.Streams.{Stream, StreamIs, has_failed, Reads, Refuses, reading, one_byte, stream_step, line_step, keep_byte, block_said, said, begin, spent, given, give, text_is, after_block, content, judged, line_is, versioned, sum_holds, path_bytes, part_bytes, given_bytes, kept, kept_of}
 use Rattle.dump_text.proofs.HeadBytes.{line_bytes}
@@ -27,18 +28,20 @@ if_kept n true s t x y = x
 if_kept n false s t x y = y
 
 -- nothing is kept where nothing of an element has come
-begun_kept : (version : ℕ) (place : Place) (stage : Stage) → kept (begin version place stage) ≡ 0
-begun_kept version place stage = omega (arith, begun_bytes false 0)
+begun_kept : (deltas : Bool) (version : ℕ) (place : Place) (stage : Stage) → kept (begin deltas version place stage) ≡ 0
+begun_kept deltas version place stage = omega (arith, begun_bytes false 0)
 
 pub spent_kept : (x : ReadState) (n : ℕ) → x ≡ spent → kept x ≤ n
-spent_kept x n e = omega (arith, ap kept e, begun_kept 0 at.Failed First)
+spent_kept x n e = omega (arith, ap kept e, begun_kept false 0 at.Failed First)
 
 given_kept : (rs : List DumpRecord) (r : ReadState) (rec : Option DumpRecord) (n : ℕ) → kept_of (given rs r rec) ≤ n
 given_kept rs r None n = omega arith
-given_kept rs r (Some rec) n = omega (arith, begun_kept r.version at.Between (stage_after r.stage rec))
+given_kept rs r (Some rec) n = omega (arith, begun_kept r.head.deltas r.version at.Between (stage_after r.stage rec))
 
 text_kept : (rs : List DumpRecord) (r : ReadState) (props : Option PropPart) (text : List ℕ) (n : ℕ) → kept_of (text_is rs r props text) ≤ n
-text_kept rs r props text n = if_kept n (sum_holds r.head.sum text) _ _ (if_kept n (nat_lt 1048576 (length text)) _ _ (omega arith) (given_kept rs r (record_of r.head props (Some text)) n)) (omega arith)
+text_kept rs r props text n =
+    if_kept n (gives_delta r.head) _ _ (given_kept rs r (record_of r.head props (Some (AsDelta (delta_of r.head text)))) n)
+    (if_kept n (sum_holds r.head.sum text) _ _ (if_kept n (nat_lt 1048576 (length text)) _ _ (omega arith) (given_kept rs r (record_of r.head props (Some (AsWhole text))) n)) (omega arith))
 
 -- what is kept behind a block that gave this
 abbrev behind : ReadState → Option PropPart → ℕ

@@ -4,6 +4,7 @@ mod Converse
 mod Grows
 mod HeadBytes
 mod HeadLines
+mod HeadModes
 mod Identities
 mod Kept
 mod Lines

@@ -1,12 +1,12 @@
 -- A text's sum in a header line.
-use Rattle.std.proofs.Common.{◌≡◌, ℕ, zero, suc, ◌*◌, ◌/◌, ◌%◌, ◌<◌, ◌^◌, ◌==◌, not, true, false, List, [], ◌∷◌, ◌++◌, length, slice_index, Ok, refl, ◌∙◌, arith}
+use Rattle.std.proofs.Common.{◌≡◌, ℕ, zero, suc, ◌*◌, ◌/◌, ◌%◌, ◌<◌, ◌^◌, ◌==◌, not, true, false, List, [], ◌∷◌, ◌++◌, length, slice_index, Option, Some, None, Ok, Err, refl, ap, ◌∙◌, arith}
 use Rattle.std.proofs.lemmas.Bool.Decides.{nat_tests}
 use Rattle.std.specs.Int.{byte_at, to_le_bytes, w32}
 use Rattle.hex.specs.Hex.{IsBytes, encode_lower, encode_with, decode_sized, decode_pairs, lower_digits}
 use Rattle.hex.proofs.HexLemmas.{length-encode_with, decode_pairs-encode_with, IsDigits-lower_digits}
 use Rattle.md5.specs.Md5.{md5, digest_bytes}
 use Rattle.md5.proofs.StandardFacts.{length-md5}
-use Rattle.dump_text.specs.Headers.{same}
+use Rattle.dump_text.specs.Headers.{same, sum_of}
 use Rattle.node_base.proofs.BlockSpelled.{both}
 use Rattle.dump_text.specs.Streams.{NoLf}
 use Rattle.dump_text.proofs.CanonRead.{has_no_lf, not_true}
@@ -50,11 +50,14 @@ sized : (s : List ℕ) (n : ℕ) → length s ≡ 2 * n → decode_sized s n ≡
 sized s n e = grind (arith, nat_tests)
 
 -- the digits of a sum are read as the sum
-pub sum_back : (text : List ℕ) → decode_sized (encode_lower (md5 text)) 16 ≡ Ok (md5 text)
+sum_back : (text : List ℕ) → decode_sized (encode_lower (md5 text)) 16 ≡ Ok (md5 text)
 sum_back text =
     let long = length-encode_with lower_digits (md5 text) in
     sized (encode_lower (md5 text)) 16 (omega (arith, long, length-md5 text))
     ∙ decode_pairs-encode_with lower_digits IsDigits-lower_digits 0 (md5 text) (sum_bytes text)
+
+pub sum_read : (text : List ℕ) → sum_of (encode_lower (md5 text)) ≡ Some (md5 text)
+sum_read text = ap (λ r. elim r as (λ _. Option (List ℕ)) [ Ok sum ↦ Some sum | Err e ↦ None ]) (sum_back text)
 
 pub sum_length : (text : List ℕ) → length (encode_lower (md5 text)) ≡ 32
 sum_length text = omega (arith, length-encode_with lower_digits (md5 text), length-md5 text)

@@ -11,8 +11,12 @@ use Rattle.dump_text.specs.declared.form.Stage.{Stage}
 use Rattle.dump_text.specs.declared.form.Stage.TheVariants.{First, Outside, Inside}
 use Rattle.dump_text.specs.declared.record.PropPart.{PropPart}
 use Rattle.dump_text.specs.declared.record.PropPart.TheVariants.{Whole, Delta}
+use Rattle.dump_text.specs.declared.record.TextPart.{TextPart}
+use Rattle.dump_text.specs.declared.record.TextPart.TheVariants.{Whole as AsWhole, Delta as AsDelta}
+use Rattle.dump_text.specs.declared.record.DeltaText.{DeltaText}
+use Rattle.dump_text.specs.declared.record.NodeRecord.{NodeRecord}
 use Rattle.dump_text.specs.declared.record.DumpRecord.{DumpRecord}
-use Rattle.dump_text.specs.declared.record.DumpRecord.TheVariants.{Identity, Revision, Node}
+use Rattle.dump_text.specs.declared.record.DumpRecord.TheVariants.{Identity, Revision, Node, DeltaNode}
 
 abbrev pub is_deletion : Option Action → Bool
 is_deletion (Some Delete) = true
@@ -51,6 +55,14 @@ is_inside stage = false
 abbrev pub is_delta : Head → Bool
 is_delta h = unwrap_or h.prop_delta false
 
+-- the text, where it stands, is given as a delta
+abbrev pub gives_delta : Head → Bool
+gives_delta h = unwrap_or h.text_delta false
+
+-- the properties or the text are a delta
+abbrev pub has_delta : Head → Bool
+has_delta h = is_delta h || gives_delta h
+
 -- they may be in format 3, and only of a node
 abbrev pub may_be_delta : ℕ → Head → Bool
 may_be_delta version h = version == 3 && is_none h.identity && is_none h.number
@@ -58,7 +70,7 @@ may_be_delta version h = version == 3 && is_none h.identity && is_none h.number
 -- the headers are those of a record that may stand here, in the format of that number
 abbrev pub fits_form : ℕ → Stage → Head → Bool
 fits_form version stage h =
-    if is_delta h && not (may_be_delta version h) then false
+    if has_delta h && not (may_be_delta version h) then false
     else if is_some h.identity then is_first stage && is_identity_head h
     else if is_some h.number then has_no_node h
     else is_inside stage && is_node_head h
@@ -70,9 +82,13 @@ length_of o = unwrap_or o 0
 abbrev pub lengths_agree : Head → Bool
 lengths_agree h = elim h.content_len [ None ↦ true | Some n ↦ n == length_of h.prop_len + length_of h.text_len ]
 
--- 32 MiB of properties, 1 MiB of text
+-- 1 MiB of a text, 2 MiB of a delta that gives one
+abbrev pub text_limit : Head → ℕ
+text_limit h = if gives_delta h then 2097152 else 1048576
+
+-- 32 MiB of properties, and the text within its limit
 abbrev pub lengths_fit : Head → Bool
-lengths_fit h = nat_le (length_of h.prop_len) 33554432 && nat_le (length_of h.text_len) 1048576
+lengths_fit h = nat_le (length_of h.prop_len) 33554432 && nat_le (length_of h.text_len) (text_limit h)
 
 abbrev pub source_of : Option Path → Option ℕ → Option Source
 source_of None n = None
@@ -90,21 +106,31 @@ whole_of None = Some map.empty
 whole_of (Some (Whole props)) = Some props
 whole_of (Some (Delta d)) = None
 
-abbrev pub node_of : Head → Option PropPart → Option (List ℕ) → Option Path → Option Action → Option DumpRecord
+-- bytes as the delta that a head announces, with the head's sums
+abbrev pub delta_of : Head → List ℕ → DeltaText
+delta_of h bytes = record { bytes = bytes; base_sum = h.base_sum; sum = h.sum }
+
+-- a node that has no text yet, with its whole text, or beside the delta of it
+abbrev pub node_with : NodeRecord → Option TextPart → DumpRecord
+node_with r None = Node r
+node_with r (Some (AsWhole text)) = Node (record r { text = Some text })
+node_with r (Some (AsDelta delta)) = DeltaNode r delta
+
+abbrev pub node_of : Head → Option PropPart → Option TextPart → Option Path → Option Action → Option DumpRecord
 node_of h props text None action = None
 node_of h props text (Some path) None = None
-node_of h props text (Some path) (Some action) = Some (Node (record { path = path; kind = h.kind; action = action; source = source_of h.source_path h.source_revision; props = props; text = text }))
+node_of h props text (Some path) (Some action) = Some (node_with (record { path = path; kind = h.kind; action = action; source = source_of h.source_path h.source_revision; props = props; text = None }) text)
 
-abbrev pub numbered_of : Head → Option PropPart → Option (List ℕ) → Option ℕ → Option DumpRecord
+abbrev pub numbered_of : Head → Option PropPart → Option TextPart → Option ℕ → Option DumpRecord
 numbered_of h props text None = node_of h props text h.path h.action
 numbered_of h props text (Some n) = option_map (Revision n) (whole_of props)
 
-abbrev pub named_of : Head → Option PropPart → Option (List ℕ) → Option (List ℕ) → Option DumpRecord
+abbrev pub named_of : Head → Option PropPart → Option TextPart → Option (List ℕ) → Option DumpRecord
 named_of h props text None = numbered_of h props text h.number
 named_of h props text (Some id) = Some (Identity id)
 
 -- the record of a head and its content, where it is one
-abbrev pub record_of : Head → Option PropPart → Option (List ℕ) → Option DumpRecord
+abbrev pub record_of : Head → Option PropPart → Option TextPart → Option DumpRecord
 record_of h props text = named_of h props text h.identity
 
 -- which records may stand behind a record
@@ -112,3 +138,4 @@ abbrev pub stage_after : Stage → DumpRecord → Stage
 stage_after stage (Identity id) = Outside
 stage_after stage (Revision n props) = Inside
 stage_after stage (Node r) = stage
+stage_after stage (DeltaNode r delta) = stage

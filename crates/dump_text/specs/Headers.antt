@@ -2,6 +2,7 @@
 use Rattle.std.specs.Prelude.{◌≡◌, ℕ, ◌==◌, ◌&&◌, Bool, List, [], ◌∷◌, ◌++◌, Option, Some, None, option_map, Result, Ok, Err, if◌then◌else◌, codes, eqb}
 use Rattle.std.specs.Borrow.{Bor}
 use lib.Pointwise.{pointwise}
+use Rattle.hex.specs.Hex.{decode_sized}
 use Rattle.uuid.specs.Text.{parsed_hyphenated}
 use Rattle.node_base.specs.Path.{Path}
 use Rattle.node_base.specs.PathText.{path_read}
@@ -50,6 +51,7 @@ known_name name =
     else if same name (codes "Content-length") then Some header.ContentLength
     else if same name (codes "Revision-number") then Some header.RevisionNumber
     else if same name (codes "Text-delta") then Some header.TextDelta
+    else if same name (codes "Text-delta-base-md5") then Some header.BaseSum
     else if same name (codes "Prop-delta") then Some header.PropDelta
     else if same name (codes "UUID") then Some header.Identity
     else None
@@ -81,6 +83,10 @@ action_of value = if same value (codes "change") then Some Modify else if same v
 -- the identity that a value spells: 36 bytes, digits of sixteen of either case with hyphens
 abbrev pub identity_of : List ℕ → Option (List ℕ)
 identity_of = parsed_hyphenated
+
+-- the sum that a value spells: 32 digits of sixteen of either case
+abbrev pub sum_of : List ℕ → Option (List ℕ)
+sum_of value = elim (decode_sized value 16) [ Ok sum ↦ Some sum | Err e ↦ None ]
 
 abbrev pub pair_now : Option (Bor (List ℕ) × Bor (List ℕ)) → Option (List ℕ × List ℕ)
 pair_now None = None

@@ -1,18 +1,17 @@
 -- What header lines come to.
-use Rattle.std.specs.Prelude.{◌≡◌, ℕ, false, List, Option, Some, None, Result, Ok, Err, if◌then◌else◌, codes}
-use Rattle.hex.specs.Hex.{decode_sized}
+use Rattle.std.specs.Prelude.{◌≡◌, ℕ, ◌&&◌, not, Bool, List, Option, Some, None, Result, Ok, Err, if◌then◌else◌, codes}
 use Rattle.node_base.specs.Path.{Path}
 use Rattle.node_base.specs.Numbers.{decimal, rev_read}
-use Rattle.dump_text.specs.Headers.{same, split_line, known_name, dump_path, kind_of, action_of, identity_of}
+use Rattle.dump_text.specs.Headers.{same, split_line, known_name, dump_path, kind_of, action_of, identity_of, sum_of}
 use Rattle.dump_text.specs.declared.fault.DumpFault.{DumpFault}
 use Rattle.dump_text.specs.declared.fault.DumpFault.TheVariants.{BadHeader, BadNumber, TextDelta, OutOfMemory}
 use Rattle.dump_text.specs.declared.header.HeaderName.{HeaderName}
 use Rattle.dump_text.specs.declared.header.HeaderName.TheVariants as header
 use Rattle.dump_text.specs.declared.head.Head.{Head}
 
--- no header yet
-abbrev pub no_head : Head
-no_head = record { identity = None; number = None; path = None; kind = None; action = None; source_revision = None; source_path = None; prop_len = None; text_len = None; content_len = None; sum = None; text_delta = None; prop_delta = None }
+-- no header yet, where texts may or may not be given as deltas; no header changes that
+abbrev pub no_head : Bool → Head
+no_head deltas = record { deltas = deltas; identity = None; number = None; path = None; kind = None; action = None; source_revision = None; source_path = None; prop_len = None; text_len = None; content_len = None; sum = None; base_sum = None; text_delta = None; prop_delta = None }
 
 -- a header comes once
 abbrev pub once : {A : Type 0} → Option A → Result Head DumpFault → Result Head DumpFault
@@ -59,11 +58,15 @@ abbrev pub set_content_length : Head → List ℕ → Result Head DumpFault
 set_content_length h value = once h.content_len (with_value BadNumber (decimal value) (λ n. record h { content_len = Some n }))
 
 abbrev pub set_sum : Head → List ℕ → Result Head DumpFault
-set_sum h value = once h.sum (elim (decode_sized value 16) [ Ok sum ↦ Ok (record h { sum = Some sum }) | Err e ↦ Err BadHeader ])
+set_sum h value = once h.sum (with_value BadHeader (sum_of value) (λ sum. record h { sum = Some sum }))
 
--- `true` is refused, any other value is ignored
+-- only read where texts may be given as deltas
+abbrev pub set_base_sum : Head → List ℕ → Result Head DumpFault
+set_base_sum h value = if h.deltas then once h.base_sum (with_value BadHeader (sum_of value) (λ sum. record h { base_sum = Some sum })) else Ok h
+
+-- `true` is refused where no text may be given as a delta, else kept for the empty line; any other value is ignored
 abbrev pub set_text_delta : Head → List ℕ → Result Head DumpFault
-set_text_delta h value = once h.text_delta (if same value (codes "true") then Err TextDelta else Ok (record h { text_delta = Some false }))
+set_text_delta h value = once h.text_delta (if same value (codes "true") && not h.deltas then Err TextDelta else Ok (record h { text_delta = Some (same value (codes "true")) }))
 
 -- `true` is kept for the empty line, any other value is ignored
 abbrev pub set_prop_delta : Head → List ℕ → Result Head DumpFault
@@ -83,6 +86,7 @@ known_says header.TextLength h value = set_text_length h value
 known_says header.ContentLength h value = set_content_length h value
 known_says header.TextSum h value = set_sum h value
 known_says header.TextDelta h value = set_text_delta h value
+known_says header.BaseSum h value = set_base_sum h value
 known_says header.PropDelta h value = set_prop_delta h value
 
 -- what a whole line does, without its LF

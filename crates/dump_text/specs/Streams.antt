@@ -12,7 +12,7 @@ use Rattle.node_base.specs.declared.text_fault.TextFault.{TextFault}
 use Rattle.node_base.specs.declared.text_fault.TextFault.TheVariants as text_fault
 use Rattle.dump_text.specs.Headers.{same, version_in}
 use Rattle.dump_text.specs.Heads.{line_says, no_head}
-use Rattle.dump_text.specs.Forms.{fits_form, lengths_agree, lengths_fit, is_delta, part_of, record_of, stage_after}
+use Rattle.dump_text.specs.Forms.{fits_form, lengths_agree, lengths_fit, is_delta, gives_delta, part_of, delta_of, record_of, stage_after}
 use Rattle.dump_text.specs.declared.fault.DumpFault.{DumpFault}
 use Rattle.dump_text.specs.declared.fault.DumpFault.TheVariants.{BadVersion, BadHeader, BadLength, BadProps, BadSum, TooLong, Failed, OutOfMemory}
 use Rattle.dump_text.specs.declared.head.Head.{Head}
@@ -21,6 +21,8 @@ use Rattle.dump_text.specs.declared.form.Stage.TheVariants.{First}
 use Rattle.dump_text.specs.declared.record.DumpRecord.{DumpRecord}
 use Rattle.dump_text.specs.declared.record.PropPart.{PropPart}
 use Rattle.dump_text.specs.declared.record.PropPart.TheVariants as part
+use Rattle.dump_text.specs.declared.record.TextPart.{TextPart}
+use Rattle.dump_text.specs.declared.record.TextPart.TheVariants.{Whole as AsWhole, Delta as AsDelta}
 use Rattle.dump_text.specs.declared.state.Place.{Place}
 use Rattle.dump_text.specs.declared.state.Place.TheVariants as at
 use Rattle.dump_text.specs.declared.state.ReadState.{ReadState}
@@ -30,37 +32,45 @@ pub data Stream : Type 0 where
   Reads : List DumpRecord → ReadState → Stream
   Refuses : List DumpRecord → DumpFault → Stream
 
--- nothing of an element has come
-abbrev pub begin : ℕ → Place → Stage → ReadState
-begin version place stage = record { version = version; place = place; stage = stage; head = no_head; block = new_block 0; props = None; held = [] }
+-- nothing of an element has come, where texts may or may not be given as deltas
+abbrev pub begin : Bool → ℕ → Place → Stage → ReadState
+begin deltas version place stage = record { version = version; place = place; stage = stage; head = no_head deltas; block = new_block 0; props = None; held = [] }
 
 -- before the first byte
+abbrev pub fresh_by : Bool → ReadState
+fresh_by deltas = begin deltas 0 at.Version First
+
+-- of a reader that takes no deltas of texts
 abbrev pub fresh : ReadState
-fresh = begin 0 at.Version First
+fresh = fresh_by false
 
 -- behind the version block of format 2
 abbrev pub behind_version : ReadState
-behind_version = begin 2 at.Between First
+behind_version = begin false 2 at.Between First
 
 -- a record is whole
 abbrev pub given : List DumpRecord → ReadState → Option DumpRecord → Stream
 given rs r None = Refuses rs BadHeader
-given rs r (Some rec) = Reads (rs ++ rec ∷ []) (begin r.version at.Between (stage_after r.stage rec))
+given rs r (Some rec) = Reads (rs ++ rec ∷ []) (begin r.head.deltas r.version at.Between (stage_after r.stage rec))
 
-abbrev pub give : List DumpRecord → ReadState → Option PropPart → Option (List ℕ) → Stream
+abbrev pub give : List DumpRecord → ReadState → Option PropPart → Option TextPart → Stream
 give rs r props text = given rs r (record_of r.head props text)
 
 abbrev pub sum_holds : Option (List ℕ) → List ℕ → Bool
 sum_holds None text = true
 sum_holds (Some sum) text = same (md5 text) sum
 
--- a text is within its limit, as one that was announced is
+-- a whole text is within its limit, as one that was announced is
 abbrev pub made : List DumpRecord → ReadState → Option PropPart → List ℕ → Stream
-made rs r props text = if nat_lt 1048576 (length text) then Refuses rs TooLong else give rs r props (Some text)
+made rs r props text = if nat_lt 1048576 (length text) then Refuses rs TooLong else give rs r props (Some (AsWhole text))
 
--- a text is whole
+-- a whole text has its sum, where one is announced
+abbrev pub whole_text : List DumpRecord → ReadState → Option PropPart → List ℕ → Stream
+whole_text rs r props text = if sum_holds r.head.sum text then made rs r props text else Refuses rs BadSum
+
+-- all bytes of a text have come; of a delta they are handed out, with the head's sums
 abbrev pub text_is : List DumpRecord → ReadState → Option PropPart → List ℕ → Stream
-text_is rs r props text = if sum_holds r.head.sum text then made rs r props text else Refuses rs BadSum
+text_is rs r props text = if gives_delta r.head then give rs r props (Some (AsDelta (delta_of r.head text))) else whole_text rs r props text
 
 -- the block, if any, is whole
 abbrev pub after_block : List DumpRecord → ReadState → Option PropPart → Stream
@@ -144,8 +154,12 @@ reading s [] = s
 reading s (b ∷ bs) = reading (one_byte s b) bs
 
 -- what a stream of bytes is
+abbrev pub dump_by : Bool → List ℕ → Stream
+dump_by deltas = reading (Reads [] (fresh_by deltas))
+
+-- to a reader that takes no deltas of texts
 abbrev pub dump : List ℕ → Stream
-dump = reading (Reads [] fresh)
+dump = dump_by false
 
 -- what a call did is this
 abbrev pub StreamIs : Result (Unit {0}) DumpFault → ReadState → List DumpRecord → Stream → Type 0
@@ -203,7 +217,7 @@ IsFront out s = (more : List DumpRecord) × (records_of s ≡ out ++ more)
 
 -- after a refusal
 abbrev pub spent : ReadState
-spent = begin 0 at.Failed First
+spent = begin false 0 at.Failed First
 
 abbrev pub version_of : ReadState → ℕ
 version_of r = r.version

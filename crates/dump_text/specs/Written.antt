@@ -95,4 +95,4 @@ read_dump id revisions = read_identity id ++ flat_map read_revision revisions
 
 -- bytes are records of the grammar in each format, whatever stands before them
 abbrev pub AreRecords : List ℕ → List DumpRecord → Type 0
-AreRecords bytes records = (version : ℕ) (stage : Stage) → IsRecords version stage bytes records
+AreRecords bytes records = (version : ℕ) (stage : Stage) → IsRecords false version stage bytes records

@@ -26,7 +26,7 @@ pub enum DumpFault {
     /// A property block that isn't one, or doesn't end where its length says (5).
     #[error("bad property block")]
     BadProps,
-    /// A text that doesn't have its MD5 (6).
+    /// A whole text that doesn't have its MD5 (6).
     #[error("checksum mismatch")]
     BadSum,
     /// The input ends inside a record, or before the version block is whole (7).
@@ -35,7 +35,7 @@ pub enum DumpFault {
     /// A line, a length, a count or a path past its limit (8).
     #[error("limit exceeded")]
     TooLong,
-    /// A text is given as a delta (9).
+    /// A text is given as a delta, and the reader takes none (9).
     #[error("text deltas are not supported")]
     TextDelta,
     /// A path outside the rule for names (10).

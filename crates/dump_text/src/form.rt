@@ -3,11 +3,14 @@
 ghost use Rattle.std.specs.Prelude.{◌≡◌, Option, Some, None};
 ghost use Rattle.dump_text.specs.Forms.{fits_form, has_no_node, is_identity_head, has_source_form, is_node_head};
 ghost use Rattle.dump_text.specs.Forms.{lengths_agree, lengths_fit, is_deletion, is_making, is_first, is_inside};
-ghost use Rattle.dump_text.specs.Forms.{source_of, part_of, whole_of, record_of, stage_after, is_delta, may_be_delta};
+ghost use Rattle.dump_text.specs.Forms.{source_of, part_of, whole_of, record_of, stage_after, is_delta, gives_delta};
+ghost use Rattle.dump_text.specs.Forms.{has_delta, may_be_delta, text_limit, delta_of, node_with};
 
+use crate::delta::DeltaBytes;
 use crate::head::Head;
-use crate::record::{DumpRecord, NodeRecord, PropPart};
-use node_base::{Action, BlockReader, NodePath, Props, RevNo, Source, Text};
+use crate::limits::DELTA_BYTES;
+use crate::record::{DeltaText, DumpRecord, NodeRecord, PropPart, TextPart};
+use node_base::{Action, BlockReader, NodePath, Props, RevNo, Source};
 
 /// Which records may stand here.
 #[derive(Clone, Copy)]
@@ -104,6 +107,20 @@ pub fn is_delta(head: &Head) -> bool
     head.prop_delta.unwrap_or(false)
 }
 
+/// Whether the text is given as a delta, where it stands.
+pub fn gives_delta(head: &Head) -> bool
+    ensures { result ≡ gives_delta head.now }
+{
+    head.text_delta.unwrap_or(false)
+}
+
+/// Whether the properties or the text are a delta.
+fn has_delta(head: &Head) -> bool
+    ensures { result ≡ has_delta head.now }
+{
+    is_delta(head) || gives_delta(head)
+}
+
 /// Whether they may be: in format 3, of a node.
 fn may_be_delta(version: u8, head: &Head) -> bool
     ensures { result ≡ may_be_delta version head.now }
@@ -115,7 +132,7 @@ fn may_be_delta(version: u8, head: &Head) -> bool
 pub fn has_form(version: u8, stage: Stage, head: &Head) -> bool
     ensures { result ≡ fits_form version stage head.now }
 {
-    if is_delta(head) && !may_be_delta(version, head) {
+    if has_delta(head) && !may_be_delta(version, head) {
         return false;
     }
     if head.identity.is_some() {
@@ -139,11 +156,22 @@ pub fn has_sum_of_lengths(head: &Head) -> bool
     n >= props && n - props == text
 }
 
+/// How many bytes the text may have, or the delta that gives it.
+fn text_limit(head: &Head) -> u64
+    ensures { result ≡ text_limit head.now }
+{
+    if gives_delta(head) {
+        DELTA_BYTES
+    } else {
+        1048576
+    }
+}
+
 /// Whether the lengths are within the limits.
 pub fn has_small_lengths(head: &Head) -> bool
     ensures { result ≡ lengths_fit head.now }
 {
-    head.prop_len.unwrap_or(0) <= 33554432 && head.text_len.unwrap_or(0) <= 1048576
+    head.prop_len.unwrap_or(0) <= 33554432 && head.text_len.unwrap_or(0) <= text_limit(head)
 }
 
 fn source_from(path: Option<NodePath>, revision: Option<RevNo>) -> Option<Source>
@@ -180,8 +208,37 @@ fn whole_from(props: Option<PropPart>) -> Option<Props>
     }
 }
 
+/// These bytes as the delta that a head announces, with the head's sums.
+pub fn delta_from(head: &Head, bytes: Vec<u8>) -> DeltaText
+    ensures { result ≡ delta_of head.now bytes.items }
+{
+    DeltaText {
+        bytes: DeltaBytes::new(bytes),
+        base_sum: head.base_sum,
+        sum: head.sum,
+    }
+}
+
+/// A node that has no text yet, with what is given of its text.
+fn node_with(mut node: NodeRecord, text: Option<TextPart>) -> DumpRecord
+    ensures { result ≡ node_with node text }
+{
+    match text {
+        None => DumpRecord::Node(node),
+        Some(TextPart::Whole(text)) => {
+            node.text = Some(text);
+            DumpRecord::Node(node)
+        }
+        Some(TextPart::Delta(delta)) => DumpRecord::DeltaNode(node, delta),
+    }
+}
+
 /// The record of a head and its content, where it is one.
-pub fn record_from(head: Head, props: Option<PropPart>, text: Option<Text>) -> Option<DumpRecord>
+pub fn record_from(
+    head: Head,
+    props: Option<PropPart>,
+    text: Option<TextPart>,
+) -> Option<DumpRecord>
     ensures { result ≡ record_of head props text }
 {
     let Head {
@@ -209,14 +266,15 @@ pub fn record_from(head: Head, props: Option<PropPart>, text: Option<Text>) -> O
     let Some(action) = action else {
         return None;
     };
-    Some(DumpRecord::Node(NodeRecord {
+    let node = NodeRecord {
         path,
         kind,
         action,
         source: source_from(source_path, source_revision),
         props,
-        text,
-    }))
+        text: None,
+    };
+    Some(node_with(node, text))
 }
 
 /// Which records may stand behind a record.
@@ -226,6 +284,6 @@ pub fn stage_behind(stage: Stage, given: &DumpRecord) -> Stage
     match given {
         DumpRecord::Identity(_) => Stage::Outside,
         DumpRecord::Revision(_, _) => Stage::Inside,
-        DumpRecord::Node(_) => stage,
+        DumpRecord::Node(_) | DumpRecord::DeltaNode(_, _) => stage,
     }
 }

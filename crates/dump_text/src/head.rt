@@ -5,13 +5,13 @@ ghost use Rattle.node_base.specs.Numbers.{decimal};
 ghost use Rattle.dump_text.specs.Headers.{known_name};
 ghost use Rattle.dump_text.specs.Heads.{line_says, HeadIs, LengthIs, no_head, set_identity, set_number, set_path};
 ghost use Rattle.dump_text.specs.Heads.{set_kind, set_action, set_source_revision, set_source_path, set_sum};
-ghost use Rattle.dump_text.specs.Heads.{set_text_delta, set_prop_delta, known_says};
+ghost use Rattle.dump_text.specs.Heads.{set_base_sum, set_text_delta, set_prop_delta, known_says};
 
 use crate::fault::DumpFault;
 use crate::header::{
     HeaderName, action_from, header_named, identity_from, kind_from, path_from, split_line,
+    sum_from,
 };
-use hex::FromHex;
 use node_base::{Action, NodeKind, NodePath, RevNo, read_decimal};
 use std::alloc::Global;
 use uuid::Uuid;
@@ -19,6 +19,8 @@ use uuid::Uuid;
 /// The headers of a record, as far as they have come.
 #[derive(Drop)]
 pub struct Head {
+    /// Whether texts may be given as deltas. No header changes it.
+    pub deltas: bool,
     pub identity: Option<Uuid>,
     pub number: Option<RevNo>,
     pub path: Option<NodePath>,
@@ -30,6 +32,7 @@ pub struct Head {
     pub text_len: Option<u64>,
     pub content_len: Option<u64>,
     pub sum: Option<[u8; 16]>,
+    pub base_sum: Option<[u8; 16]>,
     pub text_delta: Option<bool>,
     pub prop_delta: Option<bool>,
 }
@@ -45,11 +48,12 @@ fn length_from(old: Option<u64>, value: &[u8]) -> Result<u64, DumpFault>
 }
 
 impl Head {
-    /// No header yet.
-    pub fn new() -> Head
-        ensures { result ≡ no_head }
+    /// No header yet, where texts may or may not be given as deltas.
+    pub fn new(deltas: bool) -> Head
+        ensures { result ≡ no_head deltas }
     {
         Head {
+            deltas,
             identity: None,
             number: None,
             path: None,
@@ -61,6 +65,7 @@ impl Head {
             text_len: None,
             content_len: None,
             sum: None,
+            base_sum: None,
             text_delta: None,
             prop_delta: None,
         }
@@ -159,13 +164,27 @@ impl Head {
         if self.sum.is_some() {
             return Err(DumpFault::BadHeader);
         }
-        match <[u8; 16] as FromHex>::from_hex(value) {
-            Ok(sum) => {
-                self.sum = Some(sum);
-                Ok(())
-            }
-            Err(_) => Err(DumpFault::BadHeader),
+        let Some(sum) = sum_from(value) else {
+            return Err(DumpFault::BadHeader);
+        };
+        self.sum = Some(sum);
+        Ok(())
+    }
+
+    fn set_base_sum(&mut self, value: &[u8]) -> Result<(), DumpFault>
+        ensures { HeadIs result self.new (set_base_sum self.old value.now) }
+    {
+        if !self.deltas {
+            return Ok(());
         }
+        if self.base_sum.is_some() {
+            return Err(DumpFault::BadHeader);
+        }
+        let Some(sum) = sum_from(value) else {
+            return Err(DumpFault::BadHeader);
+        };
+        self.base_sum = Some(sum);
+        Ok(())
     }
 
     fn set_text_delta(&mut self, value: &[u8]) -> Result<(), DumpFault>
@@ -174,10 +193,11 @@ impl Head {
         if self.text_delta.is_some() {
             return Err(DumpFault::BadHeader);
         }
-        if value == b"true".as_slice() {
+        let is_delta = value == b"true".as_slice();
+        if is_delta && !self.deltas {
             return Err(DumpFault::TextDelta);
         }
-        self.text_delta = Some(false);
+        self.text_delta = Some(is_delta);
         Ok(())
     }
 
@@ -221,6 +241,7 @@ impl Head {
             }
             HeaderName::TextSum => self.set_sum(value),
             HeaderName::TextDelta => self.set_text_delta(value),
+            HeaderName::BaseSum => self.set_base_sum(value),
             HeaderName::PropDelta => self.set_prop_delta(value),
         }
     }

@@ -2,9 +2,10 @@
 
 ghost use Rattle.std.specs.Prelude.{◌≡◌, ◌≤◌, ◌<◌, ◌^◌, Option, Some, None, IfOk, MatchOption, codes, nat_lt, ◌&&◌};
 ghost use Rattle.dump_text.specs.Headers.{known_name, split_line, kind_of, action_of, identity_of, dump_path, pair_now};
-ghost use Rattle.dump_text.specs.Headers.{without_slash, version_in, PathIs};
+ghost use Rattle.dump_text.specs.Headers.{without_slash, version_in, sum_of, PathIs};
 
 use crate::fault::DumpFault;
+use hex::FromHex;
 use node_base::{Action, NodeKind, NodePath, PathFault};
 use std::alloc::Global;
 use uuid::Uuid;
@@ -24,6 +25,7 @@ pub enum HeaderName {
     ContentLength,
     TextSum,
     TextDelta,
+    BaseSum,
     PropDelta,
 }
 
@@ -66,6 +68,8 @@ pub fn header_named(name: &[u8]) -> Option<HeaderName>
         Some(HeaderName::RevisionNumber)
     } else if name == b"Text-delta".as_slice() {
         Some(HeaderName::TextDelta)
+    } else if name == b"Text-delta-base-md5".as_slice() {
+        Some(HeaderName::BaseSum)
     } else if name == b"Prop-delta".as_slice() {
         Some(HeaderName::PropDelta)
     } else if name == b"UUID".as_slice() {
@@ -148,6 +152,16 @@ pub fn identity_from(value: &[u8]) -> Option<Uuid>
     }
     match Uuid::try_parse_ascii(value) {
         Ok(identity) => Some(identity),
+        Err(_) => None,
+    }
+}
+
+/// The MD5 that a value spells: 32 hexadecimal digits of either case.
+pub fn sum_from(value: &[u8]) -> Option<[u8; 16]>
+    ensures { result ≡ sum_of value.now }
+{
+    match <[u8; 16] as FromHex>::from_hex(value) {
+        Ok(sum) => Some(sum),
         Err(_) => None,
     }
 }

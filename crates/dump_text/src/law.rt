@@ -1,8 +1,9 @@
 //! Laws of dump text, as contracts of functions that do nothing.
 
-ghost use Rattle.dump_text.specs.Laws.{PiecesJoin, RefusalsStay, DumpsAreRead, ReadsAreDumps, RefusalsHaveAByte};
-ghost use Rattle.dump_text.specs.Laws.{RefusedIsNoFront, OneReading, EntriesAreReadAgain, RevisionsAreReadAgain};
-ghost use Rattle.dump_text.specs.Laws.{WrittenIsRead, DumpsGoOn, VersionIsRead};
+ghost use Rattle.std.specs.Prelude.{Bool};
+ghost use Rattle.dump_text.specs.Laws.{PiecesJoin, RefusalsStay, DumpsAreReadBy, DumpsAreRead, ReadsAreDumps};
+ghost use Rattle.dump_text.specs.Laws.{RefusalsHaveAByte, RefusedIsNoFront, OneReading, EntriesAreReadAgain};
+ghost use Rattle.dump_text.specs.Laws.{RevisionsAreReadAgain, WrittenIsRead, DumpsGoOn, VersionIsRead};
 ghost use Rattle.dump_text.specs.Refusals.{RefusedForCause, DueIsRefused};
 
 /// It doesn't matter how a dump is cut into pieces.
@@ -15,7 +16,12 @@ pub fn refusals_stay()
     ensures { RefusalsStay }
 {}
 
-/// A dump of the grammar is read as its records.
+/// A dump of the grammar is read as its records, by a reader that takes texts as deltas where the dump may have them.
+pub fn dumps_are_read_by()
+    ensures { (deltas : Bool) → DumpsAreReadBy deltas }
+{}
+
+/// A dump of the grammar without such a text is read as its records.
 pub fn dumps_are_read()
     ensures { DumpsAreRead }
 {}

@@ -1,4 +1,5 @@
-//! What the types of a record's parts keep, for proofs: functions that change nothing and answer nothing.
+//! How long a delta may be; and, for proofs, what the types of a record's parts keep: functions that change nothing and
+//! answer nothing.
 
 ghost use Rattle.std.specs.Prelude.{◌≡◌, ◌≤◌, [], ◌∷◌, true};
 ghost use Rattle.node_base.specs.Props.{IsProps};
@@ -10,6 +11,9 @@ ghost use Rattle.dump_text.specs.declared.record.DumpRecord.TheVariants.{Revisio
 
 use crate::record::{NodeRecord, PropPart, RevRecord};
 use node_base::{NodePath, Props, RevNo, Source};
+
+/// How many bytes the delta of a text may have: twice as many as a text.
+pub const DELTA_BYTES: u64 = 2_097_152;
 
 /// A revision number is at most 65,535.
 fn number_limit(number: RevNo)

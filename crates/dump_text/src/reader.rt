@@ -1,9 +1,9 @@
 //! Dumps that come in pieces.
 
-ghost use Rattle.std.specs.Prelude.{◌≡◌, ℕ, List, ◌≤◌, ◌+◌, length, Ok, Err, OnOk, OnErr, true, false, if◌then◌else◌};
-ghost use Rattle.dump_text.specs.Streams.{version_of, kept, StreamIs, Reads, fresh, behind_version, spent, reading, dump};
-ghost use Rattle.dump_text.specs.Streams.{has_failed, is_between, IsFront};
-ghost use Rattle.dump_text.specs.Grammar.{Dump};
+ghost use Rattle.std.specs.Prelude.{◌≡◌, ℕ, Bool, List, ◌≤◌, ◌+◌, length, Ok, Err, OnOk, OnErr, true, false, if◌then◌else◌};
+ghost use Rattle.dump_text.specs.Streams.{version_of, kept, StreamIs, Reads, fresh, fresh_by, behind_version, spent, reading};
+ghost use Rattle.dump_text.specs.Streams.{dump_by, has_failed, is_between, IsFront};
+ghost use Rattle.dump_text.specs.Grammar.{DumpBy};
 ghost use Rattle.dump_text.specs.declared.record.DumpRecord.{DumpRecord};
 ghost use Rattle.dump_text.specs.declared.fault.DumpFault.TheVariants.{Failed, Truncated};
 
@@ -13,8 +13,8 @@ use crate::state::ReadState;
 use std::alloc::Global;
 use std::marker::Model;
 
-/// A dump that comes in pieces, as the notes on the dump file format (dump-load-format, versions 2 and 3) describe it: of
-/// version 3 property lists that are given as deltas, not texts.
+/// A dump that comes in pieces, as the notes on the dump file format (dump-load-format, versions 2 and 3) describe it. Of
+/// version 3 it takes property lists that are given as deltas; and texts that are, where it was made to.
 /// Contracts see what has come of it: the records that are whole are handed out, and the rest is kept until the next
 /// piece.
 #[derive(Drop)]
@@ -36,13 +36,24 @@ impl Model for DumpReader {
 }
 
 impl DumpReader {
-    /// Before the first byte.
+    /// Before the first byte. A text that is given as a delta is refused (TextDelta).
     pub fn new(alloc: Global) -> DumpReader
         ensures { result ≡ fresh }
     {
         DumpReader {
             alloc,
-            state: ReadState::new(alloc),
+            state: ReadState::new(alloc, false),
+        }
+    }
+
+    /// Before the first byte, and taking texts that are given as deltas, at nodes of format 3. The bytes of such a text
+    /// and the sums beside them are handed out (`DumpRecord::DeltaNode`), and not looked into.
+    pub fn taking_deltas(alloc: Global) -> DumpReader
+        ensures { result ≡ fresh_by true }
+    {
+        DumpReader {
+            alloc,
+            state: ReadState::new(alloc, true),
         }
     }
 
@@ -103,8 +114,8 @@ impl DumpReader {
         ensures failed { has_failed self ≡ true → result ≡ Err Failed }
         ensures ended { has_failed self ≡ false → result ≡ (if is_between self then Ok tt else Err Truncated) }
         // what was read is a dump of the grammar
-        ensures dump { OnOk result ((bytes : List ℕ) (rs : List DumpRecord) → dump bytes ≡ Reads rs self
-            → Dump bytes rs) }
+        ensures dump { OnOk result ((deltas : Bool) (bytes : List ℕ) (rs : List DumpRecord)
+            → dump_by deltas bytes ≡ Reads rs self → DumpBy deltas bytes rs) }
     {
         if self.state.has_failed() {
             return Err(DumpFault::Failed);

@@ -3,6 +3,7 @@
 ghost use Rattle.std.specs.Prelude.{◌≡◌, true, false};
 ghost use Rattle.dump_text.specs.Written.{is_whole_part, are_whole};
 
+use crate::delta::DeltaBytes;
 use node_base::{Action, NodeKind, NodePath, PropDelta, Props, RevNo, Source, Text};
 use uuid::Uuid;
 
@@ -22,6 +23,23 @@ pub struct NodeRecord {
     pub source: Option<Source>,
     pub props: Option<PropPart>,
     pub text: Option<Text>,
+}
+
+/// A text that is given as a delta: its bytes, as they stand in the dump, and the sums that stand beside them.
+#[derive(Drop)]
+pub struct DeltaText {
+    pub bytes: DeltaBytes,
+    /// The MD5 of the text that the delta is over (`Text-delta-base-md5`).
+    pub base_sum: Option<[u8; 16]>,
+    /// The MD5 of the text that it makes (`Text-content-md5`).
+    pub sum: Option<[u8; 16]>,
+}
+
+/// What a record gives of a text: the whole text, or a delta.
+#[derive(Drop)]
+pub enum TextPart {
+    Whole(Text),
+    Delta(DeltaText),
 }
 
 /// A whole revision: its number, its properties, and its node records.
@@ -71,10 +89,11 @@ impl RevRecord {
 }
 
 /// A record of a stream: the repository's identity, the beginning of a revision with its properties, or a node of that
-/// revision.
+/// revision. A node whose text is given as a delta stands beside that delta, and has no text itself.
 #[derive(Drop)]
 pub enum DumpRecord {
     Identity(Uuid),
     Revision(RevNo, Props),
     Node(NodeRecord),
+    DeltaNode(NodeRecord, DeltaText),
 }

@@ -4,8 +4,8 @@ ghost use Rattle.std.specs.Prelude.{◌≡◌, ◌≤◌, ◌<◌, ◌+◌, ◌+
 ghost use Rattle.std.specs.Prelude.{None, Ok, Err, IfOk, IfSome, OnErr, true, false, if◌then◌else◌};
 ghost use Rattle.md5.specs.Md5.{md5};
 ghost use Rattle.node_base.specs.Blocks.{begun};
-ghost use Rattle.dump_text.specs.Streams.{StreamIs, Reads, Refuses, begin, fresh, behind_version, spent, has_failed};
-ghost use Rattle.dump_text.specs.Streams.{give, text_is};
+ghost use Rattle.dump_text.specs.Streams.{StreamIs, Reads, Refuses, begin, fresh_by, behind_version, spent, has_failed};
+ghost use Rattle.dump_text.specs.Streams.{give, whole_text, text_is};
 ghost use Rattle.dump_text.specs.Streams.{after_block, content, judged, line_is, reading, sum_holds, is_line_place};
 ghost use Rattle.dump_text.specs.Streams.{is_failed, is_between, kept, path_bytes, given_bytes, of_prop_fault, of_text_fault, GoesOn, NoLf};
 ghost use Rattle.dump_text.specs.Streams.{IsFront};
@@ -14,13 +14,13 @@ ghost use Rattle.dump_text.specs.declared.state.Place.TheVariants as at;
 
 use crate::fault::DumpFault;
 use crate::form::{
-    Stage, has_form, has_small_lengths, has_sum_of_lengths, is_delta, part_from, record_from,
-    stage_behind,
+    Stage, delta_from, gives_delta, has_form, has_small_lengths, has_sum_of_lengths, is_delta,
+    part_from, record_from, stage_behind,
 };
 use crate::head::Head;
 use crate::header::version_in;
 use crate::held::HeldBytes;
-use crate::record::{DumpRecord, PropPart};
+use crate::record::{DumpRecord, PropPart, TextPart};
 use md5::{Digest, Md5};
 use memchr::memchr;
 use node_base::{BlockReader, NodePath, PropFault, Text, TextFault};
@@ -40,7 +40,7 @@ pub enum Place {
     Header,
     /// A property block.
     Block,
-    /// A text of so many bytes.
+    /// A text of so many bytes, or the delta that gives one.
     Text(u64),
     /// Nothing: bytes were refused.
     Failed,
@@ -140,39 +140,39 @@ fn text_fault(fault: TextFault) -> DumpFault
 
 impl ReadState {
     // Nothing of an element has come.
-    fn begin(alloc: Global, version: u8, place: Place) -> ReadState
-        ensures { result ≡ begin version place First }
+    fn begin(alloc: Global, deltas: bool, version: u8, place: Place) -> ReadState
+        ensures { result ≡ begin deltas version place First }
     {
         ReadState {
             version,
             place,
             stage: Stage::First,
-            head: Head::new(),
+            head: Head::new(deltas),
             block: BlockReader::new(alloc, 0),
             props: None,
             held: HeldBytes::new(alloc),
         }
     }
 
-    /// Before the first byte.
-    pub fn new(alloc: Global) -> ReadState
-        ensures { result ≡ fresh }
+    /// Before the first byte, where texts may or may not be given as deltas.
+    pub fn new(alloc: Global, deltas: bool) -> ReadState
+        ensures { result ≡ fresh_by deltas }
     {
-        ReadState::begin(alloc, 0, Place::Version)
+        ReadState::begin(alloc, deltas, 0, Place::Version)
     }
 
     /// Behind the version block of format 2.
     pub fn behind_version(alloc: Global) -> ReadState
         ensures { result ≡ behind_version }
     {
-        ReadState::begin(alloc, 2, Place::Between)
+        ReadState::begin(alloc, false, 2, Place::Between)
     }
 
     /// After a refusal: nothing is kept.
     pub fn spent(alloc: Global) -> ReadState
         ensures { result ≡ spent }
     {
-        ReadState::begin(alloc, 0, Place::Failed)
+        ReadState::begin(alloc, false, 0, Place::Failed)
     }
 
     /// Whether bytes were refused.
@@ -188,12 +188,13 @@ impl ReadState {
         alloc: Global,
         out: &mut Vec<DumpRecord>,
         props: Option<PropPart>,
-        text: Option<Text>,
+        text: Option<TextPart>,
     ) -> Result<(), DumpFault>
         ensures on { StreamIs result self.new out.new.items (give out.old.items self.old props text) }
         ensures out { OnErr result (out.new.items ≡ out.old.items) }
     {
-        let head = mem::replace(&mut self.head, Head::new());
+        let deltas = self.head.deltas;
+        let head = mem::replace(&mut self.head, Head::new(deltas));
         self.place = Place::Between;
         self.block = BlockReader::new(alloc, 0);
         self.props = None;
@@ -206,7 +207,7 @@ impl ReadState {
         Ok(())
     }
 
-    /// A text is whole. Where a sum was announced, it is compared, and kept with the text.
+    /// The bytes of a text have come, or those of the delta that gives it. A delta is handed out as it stands.
     fn take_text(
         &mut self,
         alloc: Global,
@@ -215,6 +216,24 @@ impl ReadState {
         bytes: Vec<u8>,
     ) -> Result<(), DumpFault>
         ensures on { StreamIs result self.new out.new.items (text_is out.old.items self.old props bytes.items) }
+        ensures out { OnErr result (out.new.items ≡ out.old.items) }
+    {
+        if gives_delta(&self.head) {
+            let delta = delta_from(&self.head, bytes);
+            return self.give(alloc, out, props, Some(TextPart::Delta(delta)));
+        }
+        self.take_whole_text(alloc, out, props, bytes)
+    }
+
+    /// The bytes of a whole text have come. Where a sum was announced, it is compared, and kept with the text.
+    fn take_whole_text(
+        &mut self,
+        alloc: Global,
+        out: &mut Vec<DumpRecord>,
+        props: Option<PropPart>,
+        bytes: Vec<u8>,
+    ) -> Result<(), DumpFault>
+        ensures on { StreamIs result self.new out.new.items (whole_text out.old.items self.old props bytes.items) }
         ensures out { OnErr result (out.new.items ≡ out.old.items) }
     {
         let made = match self.head.sum {
@@ -228,7 +247,7 @@ impl ReadState {
             }
         };
         match made {
-            Ok(text) => self.give(alloc, out, props, Some(text)),
+            Ok(text) => self.give(alloc, out, props, Some(TextPart::Whole(text))),
             Err(fault) => Err(text_fault(fault)),
         }
     }

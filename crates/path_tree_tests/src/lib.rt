@@ -27,6 +27,8 @@ mod report_tests;
 #[cfg(test)]
 mod sparse_tests;
 #[cfg(test)]
+mod text_delta_tests;
+#[cfg(test)]
 mod tree_tests;
 #[cfg(test)]
 mod trees;

@@ -39,15 +39,27 @@ fn end_of(reader: DumpReader) -> u32 {
     }
 }
 
-// What a reader says of bytes in pieces of a size: the records that came, and the number of the refusal or 0.
-pub(crate) fn answer(alloc: Global, bytes: &[u8], size: usize) -> (usize, u32)
+/// What this reader says of bytes in pieces of a size: the records that came, and the number of the refusal or 0.
+pub(crate) fn answer_of(
+    alloc: Global,
+    reader: DumpReader,
+    bytes: &[u8],
+    size: usize,
+) -> (usize, u32)
     requires { 0 < size }
 {
-    let mut reader = DumpReader::new(alloc);
+    let mut reader = reader;
     let mut out = Vec::new(alloc);
     let fed = first_refusal(&mut reader, &mut out, bytes, size);
     let ended = end_of(reader);
     (out.len(), if fed == 0 { ended } else { fed })
+}
+
+/// The same of a new reader, which takes no text as a delta.
+pub(crate) fn answer(alloc: Global, bytes: &[u8], size: usize) -> (usize, u32)
+    requires { 0 < size }
+{
+    answer_of(alloc, DumpReader::new(alloc), bytes, size)
 }
 
 // Two revisions, the second with a copy.
@@ -391,6 +403,7 @@ fn take(
         DumpRecord::Identity(uuid) => write_head(written, Some(&uuid)).expect(rt, "memory"),
         DumpRecord::Revision(number, props) => begin(rt, alloc, revisions, number, props),
         DumpRecord::Node(node) => add_node(rt, revisions, node),
+        DumpRecord::DeltaNode(_, _) => rt.panic("a text as a delta"),
     }
 }
 
