@@ -1,5 +1,6 @@
-//! Tests of sets of changes and what they make of trees, by the public items of `dump_load`; and of histories, logs and
-//! changed paths against what Subversion tells, by those of `path_history`.
+//! Tests of sets of changes and what they make of trees, by the public items of `dump_load`; of texts that are given as
+//! deltas, by those of `whole_texts`; and of histories, logs and changed paths against what Subversion tells, by those of
+//! `path_history`.
 #![tactic(auto)]
 
 #[cfg(test)]
@@ -22,3 +23,5 @@ mod spelled;
 mod stretch_tests;
 #[cfg(test)]
 mod table_tests;
+#[cfg(test)]
+mod whole_text_tests;

@@ -1,0 +1,9 @@
+pub mod Bases
+pub mod Causes
+pub mod Deltas
+pub mod Nearest
+pub mod OneWhole
+pub mod Order
+pub mod Own
+pub mod Reversed
+pub mod Takes
