@@ -5,10 +5,11 @@ use Rattle.std.specs.FinMap as finite
 use Rattle.node_base.specs.Props.{PropMap}
 use Rattle.dump_text.specs.Streams.{records_of}
 use Rattle.dump_text.specs.Grammar.{version_line}
+use Rattle.dump_text.specs.declared.record.DeltaText.{DeltaText}
 use Rattle.dump_text.specs.declared.record.NodeRecord.{NodeRecord}
 use Rattle.dump_text.specs.declared.record.RevRecord.{RevRecord}
 use Rattle.dump_text.specs.declared.record.DumpRecord.{DumpRecord}
-use Rattle.dump_text.specs.declared.record.DumpRecord.TheVariants.{Identity, Revision, Node}
+use Rattle.dump_text.specs.declared.record.DumpRecord.TheVariants.{Identity, Revision, Node, DeltaNode}
 use Rattle.dump_text.specs.Laws.{DumpsAreRead}
 use Rattle.node_base.specs.PathText.{path_text}
 use Rattle.node_base.specs.declared.node.Action.{Action}
@@ -40,6 +41,12 @@ identity_among [] (m ∷ ms) id rest h = cc
 identity_among (n ∷ ns) [] id rest h = cc
 identity_among (n ∷ ns) (m ∷ ms) id rest h = identity_among ns ms id rest (ap (drop 1) h)
 
+delta_among : (ns nodes : List NodeRecord) (node : NodeRecord) (delta : DeltaText) (rest : List DumpRecord) → map Node ns ++ DeltaNode node delta ∷ rest ≡ map Node nodes → ⊥
+delta_among [] [] node delta rest h = cc
+delta_among [] (m ∷ ms) node delta rest h = cc
+delta_among (n ∷ ns) [] node delta rest h = cc
+delta_among (n ∷ ns) (m ∷ ms) node delta rest h = delta_among ns ms node delta rest (ap (drop 1) h)
+
 -- a second revision record is no node of the first
 pub second_revision : (r : RevRecord) (number : ℕ) (props : PropMap) (rest : List DumpRecord) (n : ℕ) (ps : PropMap) (nodes : List NodeRecord)
     → so_far (Some r) ++ Revision number props ∷ rest ≡ Revision n ps ∷ map Node nodes → ⊥
@@ -50,6 +57,12 @@ pub an_identity : (begun : Option RevRecord) (id : List ℕ) (rest : List DumpRe
     → so_far begun ++ Identity id ∷ rest ≡ Revision n ps ∷ map Node nodes → ⊥
 an_identity None id rest n ps nodes h = cc
 an_identity (Some r) id rest n ps nodes h = identity_among r.nodes.items nodes id rest (ap (drop 1) h)
+
+-- nor is a node whose text is given as a delta one without
+pub a_delta : (begun : Option RevRecord) (node : NodeRecord) (delta : DeltaText) (rest : List DumpRecord) (n : ℕ) (ps : PropMap) (nodes : List NodeRecord)
+    → so_far begun ++ DeltaNode node delta ∷ rest ≡ Revision n ps ∷ map Node nodes → ⊥
+a_delta None node delta rest n ps nodes h = cc
+a_delta (Some r) node delta rest n ps nodes h = delta_among r.nodes.items nodes node delta rest (ap (drop 1) h)
 
 -- a node before the first
 pub early_node : (node : NodeRecord) (rest : List DumpRecord) (n : ℕ) (ps : PropMap) (nodes : List NodeRecord) → so_far None ++ Node node ∷ rest ≡ Revision n ps ∷ map Node nodes → ⊥
@@ -108,6 +121,7 @@ abbrev number_told : DumpRecord → ℕ
 number_told (Revision n props) = n
 number_told (Identity id) = 0
 number_told (Node r) = 0
+number_told (DeltaNode r d) = 0
 
 -- a revision that is read from an entry is the entry's
 pub read_back : (law : DumpsAreRead) (bytes : List ℕ) (e : Entry) (r : RevRecord) (rs : List DumpRecord) → Spells bytes e → AreReadAs bytes rs → records_of_revision r ≡ rs
@@ -122,6 +136,7 @@ never_refused law bytes e rs spells read = one_read bytes rs (records_in e) read
 abbrev nodes_among : List DumpRecord → List NodeRecord
 nodes_among [] = []
 nodes_among (Node r ∷ rs) = r ∷ nodes_among rs
+nodes_among (DeltaNode r d ∷ rs) = nodes_among rs
 nodes_among (Revision n props ∷ rs) = nodes_among rs
 nodes_among (Identity id ∷ rs) = nodes_among rs
 
@@ -137,6 +152,7 @@ abbrev props_told : DumpRecord → PropMap
 props_told (Revision n props) = props
 props_told (Identity id) = finite.empty
 props_told (Node r) = finite.empty
+props_told (DeltaNode r d) = finite.empty
 
 abbrev first_props : List DumpRecord → PropMap
 first_props [] = finite.empty
@@ -170,6 +186,7 @@ abbrev identity_told : DumpRecord → List ℕ
 identity_told (Identity id) = id
 identity_told (Revision n props) = []
 identity_told (Node r) = []
+identity_told (DeltaNode r d) = []
 
 abbrev first_identity : List DumpRecord → List ℕ
 first_identity [] = []

@@ -150,6 +150,7 @@ fn join(
         DumpRecord::Revision(number, props) => first(alloc, revision, number, props),
         DumpRecord::Node(node) => node_more(revision, node),
         DumpRecord::Identity(_) => Err(ReadFault::Bad),
+        DumpRecord::DeltaNode(_, _) => Err(ReadFault::Bad),
     }
 }
 
