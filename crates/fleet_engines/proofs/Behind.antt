@@ -1,5 +1,5 @@
 -- Records that are whole don't matter to what comes; and a reader that reads hasn't failed.
-use Rattle.std.proofs.Common.{◌≡◌, ℕ, ◌==◌, ◌+◌, not, nat_lt, Bool, true, false, List, [], ◌∷◌, ◌++◌, length, Option, Some, None, Result, Ok, Err, refl, ap, subst, ◌∙◌, append_assoc, codes}
+use Rattle.std.proofs.Common.{◌≡◌, ℕ, ◌==◌, ◌+◌, ◌&&◌, not, nat_lt, Bool, true, false, List, [], ◌∷◌, ◌++◌, length, Option, Some, None, Result, Ok, Err, refl, ap, subst, ◌∙◌, append_assoc, codes}
 use Rattle.std.specs.Bool.{if◌then◌else◌}
 use Rattle.node_base.specs.Path.{Path}
 use Rattle.node_base.specs.PathText.{path_read}
@@ -8,9 +8,9 @@ use Rattle.node_base.specs.declared.fault.PathFault.{PathFault}
 use Rattle.node_base.specs.declared.fault.PathFault.TheVariants as path
 use Rattle.node_base.specs.declared.prop_fault.PropFault.TheVariants as prop
 use Rattle.node_base.specs.Numbers.{decimal, rev_read}
-use Rattle.dump_text.specs.Headers.{same, version_in, split_line, known_name, path_said, without_slash, kind_of, action_of, identity_of}
+use Rattle.dump_text.specs.Headers.{same, version_in, split_line, known_name, path_said, without_slash, kind_of, action_of, identity_of, sum_of}
 use Rattle.dump_text.specs.Heads.{line_says, header_says, known_says, once, with_value, with_path}
-use Rattle.dump_text.specs.Forms.{record_of, stage_after, fits_form, lengths_agree, lengths_fit, is_delta, part_of}
+use Rattle.dump_text.specs.Forms.{record_of, stage_after, fits_form, lengths_agree, lengths_fit, is_delta, gives_delta, delta_of, part_of}
 use Rattle.dump_text.specs.declared.fault.DumpFault.{DumpFault}
 use Rattle.dump_text.specs.declared.fault.DumpFault.TheVariants as fault
 use Rattle.dump_text.specs.declared.head.Head.{Head}
@@ -18,10 +18,11 @@ use Rattle.dump_text.specs.declared.header.HeaderName.{HeaderName}
 use Rattle.dump_text.specs.declared.header.HeaderName.TheVariants as header
 use Rattle.dump_text.specs.declared.record.DumpRecord.{DumpRecord}
 use Rattle.dump_text.specs.declared.record.PropPart.{PropPart}
+use Rattle.dump_text.specs.declared.record.TextPart.TheVariants.{Whole as AsWhole, Delta as AsDelta}
 use Rattle.dump_text.specs.declared.state.Place.{Place}
 use Rattle.dump_text.specs.declared.state.Place.TheVariants as at
 use Rattle.dump_text.specs.declared.state.ReadState.{ReadState}
-use Rattle.dump_text.specs.Streams.{Stream, Reads, Refuses, reading, stream_step, line_step, line_is, versioned, block_said, said, given, give, made, text_is, after_block, content, judged, sum_holds, has_failed, begin, dump, fresh}
+use Rattle.dump_text.specs.Streams.{Stream, Reads, Refuses, reading, stream_step, line_step, line_is, versioned, block_said, said, given, give, made, whole_text, text_is, after_block, content, judged, sum_holds, has_failed, begin, dump_by, fresh_by}
 use Rattle.fleet_engines.specs.Pieces.{behind, RecordsDontMatter}
 
 -- the fault of a reader that failed before
@@ -49,10 +50,6 @@ path_fine (Err path.TooLong) put = refl
 path_fine (Err path.BadPath) put = refl
 path_fine (Err path.OutOfMemory) put = refl
 
-sum_fine : {E : Type 0} (r : Result (List ℕ) E) (put : List ℕ → Head) → FineHead (elim r as (λ _. Result Head DumpFault) [ Ok sum ↦ Ok (put sum) | Err e ↦ Err fault.BadHeader ])
-sum_fine (Ok sum) put = tt
-sum_fine (Err e) put = refl
-
 known_fine : (name : HeaderName) (h : Head) (value : List ℕ) → FineHead (known_says name h value)
 known_fine header.Identity h value = once_fine h.identity _ (value_fine fault.BadHeader (identity_of value) _ refl)
 known_fine header.RevisionNumber h value = once_fine h.number _ (value_fine fault.BadNumber (rev_read value) _ refl)
@@ -64,13 +61,19 @@ known_fine header.SourcePath h value = once_fine h.source_path _ (path_fine (pat
 known_fine header.PropLength h value = once_fine h.prop_len _ (value_fine fault.BadNumber (decimal value) _ refl)
 known_fine header.TextLength h value = once_fine h.text_len _ (value_fine fault.BadNumber (decimal value) _ refl)
 known_fine header.ContentLength h value = once_fine h.content_len _ (value_fine fault.BadNumber (decimal value) _ refl)
-known_fine header.TextSum h value = once_fine h.sum _ (sum_fine _ _)
+known_fine header.TextSum h value = once_fine h.sum _ (value_fine fault.BadHeader (sum_of value) _ refl)
 known_fine header.TextDelta h value =
     once_fine h.text_delta _
-    (elim (same value (codes "true")) as (λ b. FineHead (if b then Err fault.TextDelta else Ok (record h { text_delta = Some false }))) [
+    (elim (same value (codes "true") && not h.deltas) as (λ b. FineHead (if b then Err fault.TextDelta else Ok (record h { text_delta = Some (same value (codes "true")) }))) [
       | true ↦ refl
       | false ↦ tt
     ])
+known_fine header.BaseSum h value =
+    let read = once h.base_sum (with_value fault.BadHeader (sum_of value) (λ sum. record h { base_sum = Some sum })) in
+    elim h.deltas as (λ b. FineHead (if b then read else Ok h)) [
+      | true ↦ once_fine h.base_sum _ (value_fine fault.BadHeader (sum_of value) _ refl)
+      | false ↦ tt
+    ]
 known_fine header.PropDelta h value = once_fine h.prop_delta _ tt
 
 header_fine : (name : Option HeaderName) (h : Head) (value : List ℕ) → FineHead (header_says name h value)
@@ -111,13 +114,16 @@ refused_like front rs f e = record { fine = λ _. e; alike = refl }
 
 given_like : {H : Type 0} (front rs : List DumpRecord) (r : ReadState) (rec : Option DumpRecord) → Like H front (given rs r rec) (given (front ++ rs) r rec)
 given_like front rs r None = refused_like front rs fault.BadHeader refl
-given_like front rs r (Some rec) = record { fine = λ _. refl; alike = ap (λ x. Reads x (begin r.version at.Between (stage_after r.stage rec))) (append_assoc front rs (rec ∷ [])) }
+given_like front rs r (Some rec) = record { fine = λ _. refl; alike = ap (λ x. Reads x (begin r.head.deltas r.version at.Between (stage_after r.stage rec))) (append_assoc front rs (rec ∷ [])) }
 
 made_like : {H : Type 0} (front rs : List DumpRecord) (r : ReadState) (props : Option PropPart) (text : List ℕ) → Like H front (made rs r props text) (made (front ++ rs) r props text)
-made_like front rs r props text = if_like front (nat_lt 1048576 (length text)) _ _ _ _ (refused_like front rs fault.TooLong refl) (given_like front rs r (record_of r.head props (Some text)))
+made_like front rs r props text = if_like front (nat_lt 1048576 (length text)) _ _ _ _ (refused_like front rs fault.TooLong refl) (given_like front rs r (record_of r.head props (Some (AsWhole text))))
+
+whole_like : {H : Type 0} (front rs : List DumpRecord) (r : ReadState) (props : Option PropPart) (text : List ℕ) → Like H front (whole_text rs r props text) (whole_text (front ++ rs) r props text)
+whole_like front rs r props text = if_like front (sum_holds r.head.sum text) _ _ _ _ (made_like front rs r props text) (refused_like front rs fault.BadSum refl)
 
 text_like : {H : Type 0} (front rs : List DumpRecord) (r : ReadState) (props : Option PropPart) (text : List ℕ) → Like H front (text_is rs r props text) (text_is (front ++ rs) r props text)
-text_like front rs r props text = if_like front (sum_holds r.head.sum text) _ _ _ _ (made_like front rs r props text) (refused_like front rs fault.BadSum refl)
+text_like front rs r props text = if_like front (gives_delta r.head) _ _ _ _ (given_like front rs r (record_of r.head props (Some (AsDelta (delta_of r.head text))))) (whole_like front rs r props text)
 
 after_block_like : {H : Type 0} (front rs : List DumpRecord) (r : ReadState) (props : Option PropPart) → Like H front (after_block rs r props) (after_block (front ++ rs) r props)
 after_block_like {H} front rs r props =
@@ -184,8 +190,8 @@ fine_on s [] h = h
 fine_on (Reads rs r) (b ∷ bs) h = fine_on (stream_step r.place rs r b) bs ((step_like r.place [] rs r b refl).fine h)
 fine_on (Refuses rs f) (b ∷ bs) h = fine_on (Refuses rs f) bs h
 
-pub not_failed : (bytes : List ℕ) (rs : List DumpRecord) (r : ReadState) → dump bytes ≡ Reads rs r → has_failed r ≡ false
-not_failed bytes rs r e = subst Fine e (fine_on (Reads [] fresh) bytes refl)
+pub not_failed : (deltas : Bool) (bytes : List ℕ) (rs : List DumpRecord) (r : ReadState) → dump_by deltas bytes ≡ Reads rs r → has_failed r ≡ false
+not_failed deltas bytes rs r e = subst Fine e (fine_on (Reads [] (fresh_by deltas)) bytes refl)
 
-pub not_spent : (bytes : List ℕ) (rs : List DumpRecord) (f : DumpFault) → dump bytes ≡ Refuses rs f → is_spent f ≡ false
-not_spent bytes rs f e = subst Fine e (fine_on (Reads [] fresh) bytes refl)
+pub not_spent : (deltas : Bool) (bytes : List ℕ) (rs : List DumpRecord) (f : DumpFault) → dump_by deltas bytes ≡ Refuses rs f → is_spent f ≡ false
+not_spent deltas bytes rs f e = subst Fine e (fine_on (Reads [] (fresh_by deltas)) bytes refl)

@@ -9,10 +9,11 @@ use Rattle.std.proofs.Math.Bool.{or-true}
 use Rattle.std.proofs.lemmas.Bool.{ne_eqb, false≢true, true≢false, cases_Bool}
 use Rattle.std.proofs.lemmas.Grind.{flat_map-append}
 use Rattle.dump_text.specs.declared.record.DumpRecord.{DumpRecord}
-use Rattle.dump_text.specs.declared.record.DumpRecord.TheVariants.{Identity, Revision, Node}
+use Rattle.dump_text.specs.declared.record.DumpRecord.TheVariants.{Identity, Revision, Node, DeltaNode}
 use Rattle.fleet_engines.specs.declared.product.Product.{Product}
 use Rattle.fleet_engines.specs.declared.product.Product.TheVariants.{List as ListIt, Canon}
-use Rattle.fleet_engines.specs.Revisions.{Rev, Told, untold, is_lone, is_past_zero, no_revision, revision_0, a_revision, Closes, Takes}
+use Rattle.whole_texts.specs.declared.read_node.ReadNode.{ReadNode}
+use Rattle.fleet_engines.specs.Revisions.{plain, Rev, Told, untold, is_lone, is_past_zero, no_revision, revision_0, a_revision, Closes, Takes, TakesNode}
 use Rattle.fleet_engines.proofs.Telling.{tells_one, tells_count}
 use Rattle.fleet_engines.specs.Runs.{adds, canon_of, due, ending, has_begun, head_of, whole, Stands}
 
@@ -62,14 +63,18 @@ begun_after_close t m u out new k n (a_revision r set tree e z mk d o) w h =
       head = ap head_of w ∙ ap head_of d;
     }
 
+begun_with_node : (t u : Told) (n : ReadNode) (out : List Rev) → TakesNode t n u out → has_begun t ≡ true → Begun t u
+begun_with_node t u n out p h =
+    let past : is_past_zero (Some p.0) ≡ true = ap is_past_zero (sym p.1) ∙ p.2 in
+    record { begun = ap has_begun p.3 ∙ ap (λ b. not (is_lone t.trees) || b) past ∙ or-true (not (is_lone t.trees)); head = ap head_of p.3 }
+
 begun_stays : (t u : Told) (r : DumpRecord) (out : List Rev) (k : ℕ) → length t.trees ≡ suc k → Takes t r u out → has_begun t ≡ true → Begun t u
 begun_stays t u (Identity id) out k n p h =
     let same : u ≡ t = p.0 ∙ same_told (is_lone t.trees) t.last (record t { identity = Some id }) t h in
     record { begun = ap has_begun same ∙ h; head = ap head_of same }
 begun_stays t u (Revision number props) out k n p h = begun_after_close t p.0 u out (record { number = number; props = props; nodes = [] }) k n p.1 p.2 h
-begun_stays t u (Node x) out k n p h =
-    let past : is_past_zero (Some p.0) ≡ true = ap is_past_zero (sym p.1) ∙ p.2 in
-    record { begun = ap has_begun p.3 ∙ ap (λ b. not (is_lone t.trees) || b) past ∙ or-true (not (is_lone t.trees)); head = ap head_of p.3 }
+begun_stays t u (Node x) out k n p h = begun_with_node t u (plain x) out p h
+begun_stays t u (DeltaNode x d) out k n p h = begun_with_node t u (record { node = x; delta = Some d }) out p h
 
 -- before that no revision is whole
 none_closed : (t m : Told) (out : List Rev) → Closes t m out → has_begun t ≡ false → out ≡ []
@@ -81,6 +86,7 @@ none_taken : (t u : Told) (r : DumpRecord) (out : List Rev) → Takes t r u out 
 none_taken t u (Identity id) out p h = p.1
 none_taken t u (Revision n props) out p h = none_closed t p.0 out p.1 h
 none_taken t u (Node x) out p h = p.4
+none_taken t u (DeltaNode x d) out p h = p.4
 
 none_before : (n : ℕ) (last : Option Rev) (outs : List Rev) → n ≡ suc (length outs) → (not (n == 1) || is_past_zero last) ≡ false → outs ≡ []
 none_before n last [] e h = refl

@@ -7,6 +7,7 @@ pub mod Identities
 pub mod Listed
 pub mod Makers
 pub mod Paths
+pub mod Plain
 pub mod Spelled
 pub mod Streaming
 pub mod Telling

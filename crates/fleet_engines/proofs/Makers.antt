@@ -1,12 +1,12 @@
 -- What `list` and `canon` make of a stream.
-use Rattle.std.proofs.Common.{◌≡◌, ℕ, ◌⊎◌, List, [], ◌∷◌, ◌++◌, Option, Some, None, IfSome, Result, Ok, Err, refl, sym, ap, subst, ◌∙◌, append_assoc, append-nil, inl, inr}
+use Rattle.std.proofs.Common.{◌≡◌, ℕ, ◌⊎◌, Bool, List, [], ◌∷◌, ◌++◌, Option, Some, None, IfSome, Result, Ok, Err, refl, sym, ap, subst, ◌∙◌, append_assoc, append-nil, inl, inr}
 use Rattle.std.proofs.KnownBytes.{Appends-nil, Appends-trans}
 use Rattle.std.specs.Result.{OnOk}
 use Rattle.std.specs.Io.KnownBytes.{Appends}
 use Rattle.byte_streams.specs.Causes.{Rose}
 use Rattle.node_base.specs.declared.refusal.Refusal.{Refusal}
 use Rattle.node_base.specs.declared.refusal.Refusal.TheVariants.{OutOfMemory}
-use Rattle.dump_text.specs.Streams.{dump, records_of}
+use Rattle.dump_text.specs.Streams.{dump_by, records_of}
 use Rattle.dump_text.specs.declared.record.DumpRecord.{DumpRecord}
 use Rattle.fleet_engines.specs.declared.product.Product.{Product}
 use Rattle.fleet_engines.specs.declared.product.Product.TheVariants.{List as ListIt, Canon}
@@ -52,17 +52,17 @@ first_stands : (c : Product) (t : Told) (start : Option (List ℕ)) → t ≡ un
 first_stands c t start e = subst (λ x. Stands c [] x start start) (sym e) (untold_stands c start)
 
 -- memory runs out before the first byte
-pub first_refused : (c : Product) (start a : Option (List ℕ)) (e : Refusal) → e ≡ OutOfMemory → IfSome a (λ bytes. Refused c bytes start start e)
-first_refused c start None e d = tt
-first_refused c start (Some bytes) e d = record { records = []; told = untold; stands = untold_stands c start; why = why_stopped (records_of (dump bytes)) refl (inl d) }
+pub first_refused : (deltas : Bool) (c : Product) (start a : Option (List ℕ)) (e : Refusal) → e ≡ OutOfMemory → IfSome a (λ bytes. Refused deltas c bytes start start e)
+first_refused deltas c start None e d = tt
+first_refused deltas c start (Some bytes) e d = record { records = []; told = untold; stands = untold_stands c start; why = why_stopped (records_of (dump_by deltas bytes)) refl (inl d) }
 
 -- what is written by the end
 ends_written : (c : Product) (rs : List DumpRecord) (t all : Told) (newest : List Rev) (start now later : Option (List ℕ)) → Closes t all newest → Appends now later (ending c t all newest) → (s : Stands c rs t start now) → Appends start later (whole c all (s.out ++ newest))
 ends_written ListIt rs t all newest start now later k w s = Appends-trans start now later [] (newest_listing all.trees) s.written w
 ends_written Canon rs t all newest start now later k w s = canon_ends rs t all newest start now later k w s
 
-pub accepted : {P : Type 0} (f : P → Held) (c : Product) (bytes : List ℕ) (first last : P) → Done (λ x next y. TakesOne c (f x) next (f y)) (λ x y. EndsWith c (f x) (f y)) bytes first last → (f first).told ≡ untold → Accepted c bytes (f first).contents (f last).contents
-accepted f c bytes first last d new =
+pub accepted : {P : Type 0} (f : P → Held) (deltas : Bool) (c : Product) (bytes : List ℕ) (first last : P) → Done deltas (λ x next y. TakesOne c (f x) next (f y)) (λ x y. EndsWith c (f x) (f y)) bytes first last → (f first).told ≡ untold → Accepted deltas c bytes (f first).contents (f last).contents
+accepted f deltas c bytes first last d new =
     let start = (f first).contents in
     let s = stands_on f c [] d.reached.records start first d.before (first_stands c (f first).told start new) d.reached.taken in
     record {
@@ -79,9 +79,9 @@ accepted f c bytes first last d new =
       written = ends_written c d.reached.records (f d.before).told d.end.0 d.end.1 start (f d.before).contents (f last).contents d.end.2 d.end.3 s;
     }
 
-pub refused : {P : Type 0} (f : P → Held) (c : Product) (bytes : List ℕ) (first : P) (e : Refusal) (last : P) → Halts (λ x next y. TakesOne c (f x) next (f y)) (λ x next e y. RefusesOne (f x) next e (f y)) (λ x e y. CantEnd (f x) e (f y)) bytes first e last → (f first).told ≡ untold
-    → Rose (f first).failures (f last).failures ⊎ Refused c bytes (f first).contents (f last).contents e
-refused f c bytes first e last (record_refused rs next more before is taken why) new =
+pub refused : {P : Type 0} (f : P → Held) (deltas : Bool) (c : Product) (bytes : List ℕ) (first : P) (e : Refusal) (last : P) → Halts deltas (λ x next y. TakesOne c (f x) next (f y)) (λ x next e y. RefusesOne (f x) next e (f y)) (λ x e y. CantEnd (f x) e (f y)) bytes first e last → (f first).told ≡ untold
+    → Rose (f first).failures (f last).failures ⊎ Refused deltas c bytes (f first).contents (f last).contents e
+refused f deltas c bytes first e last (record_refused rs next more before is taken why) new =
     let start = (f first).contents in
     let s = stands_on f c [] rs start first before (first_stands c (f first).told start new) taken in
     elim why [
@@ -98,13 +98,13 @@ refused f c bytes first e last (record_refused rs next more before is taken why)
             ];
           })
     ]
-refused f c bytes first e last (byte_refused rs fault is taken d) new =
+refused f deltas c bytes first e last (byte_refused rs fault is taken d) new =
     let start = (f first).contents in
     inr (record { records = rs; told = (f last).told; stands = stands_on f c [] rs start first last (first_stands c (f first).told start new) taken; why = why_byte fault is d })
-refused f c bytes first e last (cut_short reader p between d) new =
+refused f deltas c bytes first e last (cut_short reader p between d) new =
     let start = (f first).contents in
     inr (record { records = p.records; told = (f last).told; stands = stands_on f c [] p.records start first last (first_stands c (f first).told start new) p.taken; why = why_cut reader p.read between d })
-refused f c bytes first e last (end_refused reader before p between why) new =
+refused f deltas c bytes first e last (end_refused reader before p between why) new =
     let start = (f first).contents in
     let s = stands_on f c [] p.records start first before (first_stands c (f first).told start new) p.taken in
     elim why [
@@ -121,6 +121,6 @@ refused f c bytes first e last (end_refused reader before p between why) new =
             ];
           })
     ]
-refused f c bytes first e last (stopped rs more is taken w) new =
+refused f deltas c bytes first e last (stopped rs more is taken w) new =
     let start = (f first).contents in
     inr (record { records = rs; told = (f last).told; stands = stands_on f c [] rs start first last (first_stands c (f first).told start new) taken; why = why_stopped more is w })

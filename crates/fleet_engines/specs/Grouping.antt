@@ -4,9 +4,12 @@ use Rattle.std.specs.List.{filter, flat_map}
 use Rattle.std.specs.FinMap as finite
 use Rattle.node_base.specs.Props.{PropMap}
 use Rattle.node_base.specs.Tree.{PathMap}
+use Rattle.dump_text.specs.declared.record.DeltaText.{DeltaText}
 use Rattle.dump_text.specs.declared.record.DumpRecord.{DumpRecord}
-use Rattle.dump_text.specs.declared.record.DumpRecord.TheVariants.{Identity, Revision, Node}
+use Rattle.dump_text.specs.declared.record.DumpRecord.TheVariants.{Identity, Revision, Node, DeltaNode}
+use Rattle.dump_text.specs.declared.record.NodeRecord.{NodeRecord}
 use Rattle.dump_load.specs.declared.change.Change.{Change}
+use Rattle.whole_texts.specs.declared.read_node.ReadNode.{ReadNode}
 use Rattle.fleet_engines.specs.Revisions.{Rev, Told, root_alone, untold, by_set, Makes, Closes, Tells}
 
 abbrev pub is_no_identity : DumpRecord → Bool
@@ -19,9 +22,18 @@ identity_of known [] = known
 identity_of known (Identity id ∷ rs) = identity_of (Some id) rs
 identity_of known (r ∷ rs) = known
 
+-- a node's record, with its delta or without one
+abbrev pub with_delta : NodeRecord → Option DeltaText → DumpRecord
+with_delta x None = Node x
+with_delta x (Some d) = DeltaNode x d
+
+-- the record that a node was read from
+abbrev pub record_of_node : ReadNode → DumpRecord
+record_of_node n = with_delta n.node n.delta
+
 -- a revision's record, and one for each of its nodes
 abbrev pub records_of_rev : Rev → List DumpRecord
-records_of_rev r = Revision r.number r.props ∷ map Node r.nodes
+records_of_rev r = Revision r.number r.props ∷ map record_of_node r.nodes
 
 -- entries of revision 0, which has no nodes
 abbrev pub AreZero : List Rev → Type 0

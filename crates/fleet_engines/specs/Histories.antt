@@ -1,9 +1,9 @@
 -- What a history is seen as.
-use Rattle.std.specs.Prelude.{List, [], ◌∷◌, Option, Some, None}
+use Rattle.std.specs.Prelude.{List, [], ◌∷◌, map, Option, Some, None}
 use Rattle.std.specs.Option.{option_map}
 use Rattle.byte_streams.specs.declared.output.Output.{Ghosts}
 use Rattle.dump_text.specs.declared.record.RevRecord.{RevRecord}
-use Rattle.fleet_engines.specs.Revisions.{Rev, Told}
+use Rattle.fleet_engines.specs.Revisions.{plain, Rev, Told}
 use Rattle.fleet_engines.specs.Runs.{Held}
 use Rattle.fleet_engines.specs.Takers.{Place}
 use Rattle.fleet_engines.specs.Nodes.{nodes_of}
@@ -12,9 +12,9 @@ use Rattle.fleet_engines.specs.declared.open_revision.OpenRevision.{OpenRevision
 use Rattle.fleet_engines.specs.declared.open_revision.ReadRevision.{ReadRevision}
 
 abbrev pub rev_of : RevRecord → Rev
-rev_of r = record { number = r.number; props = r.props; nodes = r.nodes.items }
+rev_of r = record { number = r.number; props = r.props; nodes = map plain r.nodes.items }
 
--- with all the node records that came
+-- with all the nodes that came
 abbrev pub rev_read : ReadRevision → Rev
 rev_read r = record { number = r.number; props = r.props; nodes = nodes_of r.nodes }
 

@@ -1,8 +1,8 @@
--- What the node records of a revision that is read are seen as.
+-- What the nodes of a revision that is read are seen as.
 use Rattle.std.specs.Prelude.{List, map}
-use Rattle.dump_text.specs.declared.record.NodeRecord.{NodeRecord}
+use Rattle.whole_texts.specs.declared.read_node.ReadNode.{ReadNode}
 use Rattle.fleet_engines.specs.declared.revision_nodes.RevisionNodes.{RevisionNodes}
 
 -- all that came, in order
-abbrev pub nodes_of : RevisionNodes → List NodeRecord
+abbrev pub nodes_of : RevisionNodes → List ReadNode
 nodes_of n = map (λ s. s.value) n.came.items

@@ -1,5 +1,5 @@
 -- What a dump's records tell: its revisions, judged one after another.
-use Rattle.std.specs.Prelude.{◌≡◌, ℕ, ◌==◌, ◌&&◌, not, Bool, true, false, List, [], ◌∷◌, ◌++◌, map, length, Option, Some, None, is_none, if◌then◌else◌}
+use Rattle.std.specs.Prelude.{◌≡◌, ◌<◌, ◌≤◌, ℕ, ◌==◌, ◌&&◌, not, Bool, true, false, List, [], ◌∷◌, ◌++◌, map, length, Option, Some, None, is_none, if◌then◌else◌}
 use Rattle.std.specs.Option.{option_map_or}
 use Rattle.std.specs.FinMap as finite
 use Rattle.node_base.specs.Props.{PropMap}
@@ -8,18 +8,30 @@ use Rattle.node_base.specs.declared.refusal.Refusal.{Refusal}
 use Rattle.node_base.specs.declared.refusal.Refusal.TheVariants.{WrongNumber}
 use Rattle.dump_text.specs.declared.record.NodeRecord.{NodeRecord}
 use Rattle.dump_text.specs.declared.record.DumpRecord.{DumpRecord}
-use Rattle.dump_text.specs.declared.record.DumpRecord.TheVariants.{Identity, Revision, Node}
+use Rattle.dump_text.specs.declared.record.DumpRecord.TheVariants.{Identity, Revision, Node, DeltaNode}
 use Rattle.dump_load.specs.declared.change.Change.{Change}
 use Rattle.dump_load.specs.declared.fault.ChangeFault.{ChangeFault}
 use Rattle.dump_load.specs.Faults.{change_refusal}
 use Rattle.dump_load.specs.Trees.{Makes as MakesTree}
-use Rattle.dump_load.specs.Records.{record_of, IsNormalSetOf, IsLoadRefusal}
+use Rattle.dump_load.specs.Records.{change_of, record_of, set_fault, IsNormalSetOf, IsLoadRefusal}
+use Rattle.whole_texts.specs.declared.read_node.ReadNode.{ReadNode}
+use Rattle.whole_texts.specs.declared.refusal.TextRefusal.{TextRefusal}
+use Rattle.whole_texts.specs.Refusals.{text_refusal}
+use Rattle.whole_texts.specs.Whole.{node_in, records_of, AreWhole, IsRefused}
 
--- a revision: its number, its properties and its node records
+-- a node whose text isn't given as a delta
+abbrev pub plain : NodeRecord → ReadNode
+plain x = record { node = x; delta = None }
+
+-- the changes that nodes state
+abbrev pub changes_of : List ReadNode → List Change
+changes_of ns = map (λ n. change_of (node_in n)) ns
+
+-- a revision: its number, its properties and its nodes as they were read
 pub record Rev : Type 0 where
   pub number : ℕ
   pub props : PropMap
-  pub nodes : List NodeRecord
+  pub nodes : List ReadNode
 
 -- what records have told: an identity, the properties of revision 0, the trees from revision 0 on, and the revision that is still read
 pub record Told : Type 0 where
@@ -36,19 +48,28 @@ root_alone = finite.insert finite.empty [] new_dir
 abbrev pub untold : Told
 untold = record { identity = None; zero = finite.empty; trees = root_alone ∷ []; last = None }
 
--- over the trees before it, a revision makes that tree, by that set of changes
+-- over the trees before it, nodes have these records, once their texts are made whole
+abbrev pub HaveRecords : List PathMap → List ReadNode → List NodeRecord → Type 0
+HaveRecords trees ns whole = AreWhole trees (records_of ns) ns whole
+
+-- over the trees before it, a revision makes that tree, by the set of changes that its whole records give
 pub record Makes (trees : List PathMap) (r : Rev) (set : List Change) (tree : PathMap) : Type 0 where
   pub next : r.number ≡ length trees
-  pub normal : IsNormalSetOf trees r.nodes set
+  pub whole : List NodeRecord
+  pub records : HaveRecords trees r.nodes whole
+  pub normal : IsNormalSetOf trees whole set
   pub made : MakesTree trees set tree
 
--- over the trees before it, a revision is refused
-abbrev pub IsUnfit : List PathMap → Rev → Refusal → Type 0
-IsUnfit trees r e = (f : ChangeFault) × (e ≡ change_refusal f) × IsLoadRefusal trees r.number r.nodes f
+-- over the trees before it, a revision is refused: its number isn't the next one; or its nodes are more than 8,192, and what they state makes no set; or else a text can't be made whole; or the whole records give no set, or one with a fault
+pub data IsUnfit (trees : List PathMap) (r : Rev) (e : Refusal) : Type 0 where
+  not_next : (r.number ≡ length trees → ⊥) → e ≡ WrongNumber → IsUnfit trees r e
+  too_many : (f : ChangeFault) → r.number ≡ length trees → 8192 < length r.nodes → set_fault (changes_of r.nodes) ≡ Some f → e ≡ change_refusal f → IsUnfit trees r e
+  not_whole : (f : TextRefusal) → r.number ≡ length trees → length r.nodes ≤ 8192 → IsRefused trees r.nodes f → e ≡ text_refusal f → IsUnfit trees r e
+  not_made : (whole : List NodeRecord) (f : ChangeFault) → length r.nodes ≤ 8192 → HaveRecords trees r.nodes whole → IsLoadRefusal trees r.number whole f → e ≡ change_refusal f → IsUnfit trees r e
 
 -- the revision as it is written: its changes in path order, each path once
 abbrev pub by_set : Rev → List Change → Rev
-by_set r set = record { number = r.number; props = r.props; nodes = map record_of set }
+by_set r set = record { number = r.number; props = r.props; nodes = map plain (map record_of set) }
 
 -- whether revision 0 alone has its tree
 abbrev pub is_lone : List PathMap → Bool
@@ -76,17 +97,27 @@ identified t id = if is_lone t.trees && is_none t.last then record t { identity 
 abbrev pub is_past_zero : Option Rev → Bool
 is_past_zero last = option_map_or (λ r. not (r.number == 0)) last false
 
+-- a node more, of a revision other than 0
+abbrev pub TakesNode : Told → ReadNode → Told → List Rev → Type 0
+TakesNode t n u out = (r : Rev) × (t.last ≡ Some r) × (is_past_zero t.last ≡ true) × (u ≡ record t { last = Some (record r { nodes = r.nodes ++ n ∷ [] }) }) × (out ≡ [])
+
+-- it is refused: no revision other than 0 is read
+abbrev pub CantTakeNode : Told → Refusal → Type 0
+CantTakeNode t e = (e ≡ WrongNumber) × (is_past_zero t.last ≡ false)
+
 -- one record more, and the revision that is whole by it
 abbrev pub Takes : Told → DumpRecord → Told → List Rev → Type 0
 Takes t (Identity id) u out = (u ≡ identified t id) × (out ≡ [])
 Takes t (Revision n props) u out = (m : Told) × Closes t m out × (u ≡ record m { last = Some (record { number = n; props = props; nodes = [] }) })
-Takes t (Node x) u out = (r : Rev) × (t.last ≡ Some r) × (is_past_zero t.last ≡ true) × (u ≡ record t { last = Some (record r { nodes = r.nodes ++ x ∷ [] }) }) × (out ≡ [])
+Takes t (Node x) u out = TakesNode t (plain x) u out
+Takes t (DeltaNode x d) u out = TakesNode t (record { node = x; delta = Some d }) u out
 
 -- a record is refused: it begins a revision and the one before it is refused, or it is a node under revision 0
 abbrev pub CantTake : Told → DumpRecord → Refusal → Type 0
 CantTake t (Identity id) e = ⊥
 CantTake t (Revision n props) e = CantClose t e
-CantTake t (Node x) e = (e ≡ WrongNumber) × (is_past_zero t.last ≡ false)
+CantTake t (Node x) e = CantTakeNode t e
+CantTake t (DeltaNode x d) e = CantTakeNode t e
 
 -- records one after another, and the revisions that are whole by them
 abbrev pub Tells : Told → List DumpRecord → Told → List Rev → Type 0

@@ -1,5 +1,5 @@
 -- What is made of a dump, and what the answer says of the bytes that were read.
-use Rattle.std.specs.Prelude.{◌≡◌, ◌≤◌, ℕ, ◌-◌, ◌⊎◌, ◌&&◌, ◌||◌, not, Bool, true, false, List, [], ◌∷◌, ◌++◌, length, Option, Result, Ok, Err, if◌then◌else◌}
+use Rattle.std.specs.Prelude.{◌≡◌, ◌≤◌, ℕ, ◌-◌, ◌⊎◌, ◌&&◌, ◌||◌, not, Bool, true, false, List, [], ◌∷◌, ◌++◌, map, length, Option, Result, Ok, Err, if◌then◌else◌}
 use Rattle.std.specs.Option.{option_map_or}
 use Rattle.std.specs.List.{flat_map, slice_get}
 use Rattle.std.specs.Io.KnownBytes.{Appends}
@@ -11,16 +11,17 @@ use Rattle.dump_text.specs.declared.record.DumpRecord.{DumpRecord}
 use Rattle.dump_text.specs.declared.fault.DumpFault.{DumpFault}
 use Rattle.dump_text.specs.declared.state.ReadState.{ReadState}
 use Rattle.dump_text.specs.Canon.{canon_head, canon_entry, canon_node}
-use Rattle.dump_text.specs.Streams.{Reads, Refuses, dump, records_of, is_between}
+use Rattle.dump_text.specs.Streams.{Reads, Refuses, dump_by, records_of, is_between}
 use Rattle.fleet_engines.specs.declared.product.Product.{Product}
 use Rattle.fleet_engines.specs.declared.product.Product.TheVariants.{List as ListIt, Canon}
 use Rattle.fleet_engines.specs.Listing.{listing}
 use Rattle.dump_text.specs.Faults.{dump_refusal}
+use Rattle.whole_texts.specs.Whole.{node_in}
 use Rattle.fleet_engines.specs.Revisions.{Rev, Told, untold, is_lone, is_past_zero, Closes, CantClose, Takes, CantTake, Tells}
 
 -- a revision in its canonical spelling
 abbrev pub canon_of : Rev → List ℕ
-canon_of r = canon_entry r.number r.props ++ flat_map canon_node r.nodes
+canon_of r = canon_entry r.number r.props ++ flat_map canon_node (map node_in r.nodes)
 
 -- the head and revision 0 in theirs
 abbrev pub head_of : Told → List ℕ
@@ -82,26 +83,26 @@ pub record Stands (c : Product) (rs : List DumpRecord) (t : Told) (start now : O
   pub tells : Tells untold rs t out
   pub written : Appends start now (due c t out)
 
--- why a stream is refused behind some records that told that: the next record can't be taken; or the byte behind them shows a fault of the text; or the stream ends there, in a record; or the last revision can't be closed; or memory ran out, or a peer failed, before the next record was taken
-pub data Why (bytes : List ℕ) (rs : List DumpRecord) (t : Told) (e : Refusal) : Type 0 where
-  record_refused : (r : DumpRecord) (more : List DumpRecord) → records_of (dump bytes) ≡ rs ++ r ∷ more → CantTake t r e → Why bytes rs t e
-  byte_refused : (f : DumpFault) → dump bytes ≡ Refuses rs f → e ≡ dump_refusal f → Why bytes rs t e
-  cut_short : (reader : ReadState) → dump bytes ≡ Reads rs reader → is_between reader ≡ false → e ≡ Truncated → Why bytes rs t e
-  last_refused : (reader : ReadState) → dump bytes ≡ Reads rs reader → is_between reader ≡ true → CantClose t e → Why bytes rs t e
-  stopped : (more : List DumpRecord) → records_of (dump bytes) ≡ rs ++ more → (e ≡ OutOfMemory) ⊎ (e ≡ PeerFailed) → Why bytes rs t e
+-- why a stream, in which texts may be given as deltas or may not, is refused behind some records that told that: the next record can't be taken; or the byte behind them shows a fault of the text; or the stream ends there, in a record; or the last revision can't be closed; or memory ran out, or a peer failed, before the next record was taken
+pub data Why (deltas : Bool) (bytes : List ℕ) (rs : List DumpRecord) (t : Told) (e : Refusal) : Type 0 where
+  record_refused : (r : DumpRecord) (more : List DumpRecord) → records_of (dump_by deltas bytes) ≡ rs ++ r ∷ more → CantTake t r e → Why deltas bytes rs t e
+  byte_refused : (f : DumpFault) → dump_by deltas bytes ≡ Refuses rs f → e ≡ dump_refusal f → Why deltas bytes rs t e
+  cut_short : (reader : ReadState) → dump_by deltas bytes ≡ Reads rs reader → is_between reader ≡ false → e ≡ Truncated → Why deltas bytes rs t e
+  last_refused : (reader : ReadState) → dump_by deltas bytes ≡ Reads rs reader → is_between reader ≡ true → CantClose t e → Why deltas bytes rs t e
+  stopped : (more : List DumpRecord) → records_of (dump_by deltas bytes) ≡ rs ++ more → (e ≡ OutOfMemory) ⊎ (e ≡ PeerFailed) → Why deltas bytes rs t e
 
 -- a stream is refused, and what is due of the records before the fault is written, and nothing else
-pub record Refused (c : Product) (bytes : List ℕ) (start now : Option (List ℕ)) (e : Refusal) : Type 0 where
+pub record Refused (deltas : Bool) (c : Product) (bytes : List ℕ) (start now : Option (List ℕ)) (e : Refusal) : Type 0 where
   pub records : List DumpRecord
   pub told : Told
   pub stands : Stands c records told start now
-  pub why : Why bytes records told e
+  pub why : Why deltas bytes records told e
 
 -- a stream is a whole dump, each of its revisions makes a tree, and what it comes to is written, and nothing else
-pub record Accepted (c : Product) (bytes : List ℕ) (start now : Option (List ℕ)) : Type 0 where
+pub record Accepted (deltas : Bool) (c : Product) (bytes : List ℕ) (start now : Option (List ℕ)) : Type 0 where
   pub records : List DumpRecord
   pub reader : ReadState
-  pub read : dump bytes ≡ Reads records reader
+  pub read : dump_by deltas bytes ≡ Reads records reader
   pub ended : is_between reader ≡ true
   pub told : Told
   pub out : List Rev

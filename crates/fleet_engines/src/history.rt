@@ -7,16 +7,17 @@ ghost use Rattle.dump_text.specs.Canon.{now_of};
 ghost use Rattle.node_base.specs.Tree.{PathMap};
 ghost use Rattle.fleet_engines.specs.Histories.{told_of, revs_of, rev_of, rev_read};
 ghost use Rattle.fleet_engines.specs.Revisions.{by_set, is_zero, root_alone, untold, Makes, IsUnfit};
-ghost use Rattle.fleet_engines.specs.Revisions.{Closes, CantClose, Takes, CantTake};
+ghost use Rattle.fleet_engines.specs.Revisions.{Closes, CantClose, Takes, CantTake, TakesNode, CantTakeNode};
 ghost use Rattle.fleet_engines.specs.Runs.{has_begun};
 
 use crate::open_revision::{OpenRevision, ReadRevision};
-use dump_load::{Applied, change_refusal};
+use dump_load::Applied;
 use dump_text::{DumpRecord, RevRecord};
 use node_base::{Props, Refusal, RevNo};
 use path_tree::Tree;
 use std::alloc::{AllocError, Global};
 use uuid::Uuid;
+use whole_texts::ReadNode;
 
 /// What a dump's records have made so far: the identity, revision 0's properties, the trees from revision 0 on, and the
 /// revision that is still read.
@@ -83,15 +84,28 @@ impl History {
                 self.last.begin(number, props);
                 Ok(closed)
             }
-            DumpRecord::Node(node) => match self.last.add_node(node) {
-                Ok(()) => Ok(None),
-                Err(fault) => Err(fault),
-            },
+            DumpRecord::Node(node) => self.add_node(ReadNode { node, delta: None }),
+            DumpRecord::DeltaNode(node, delta) => self.add_node(ReadNode {
+                node,
+                delta: Some(delta),
+            }),
         }
     }
 
-    /// Judges the revision that is read, if there is one: its number, then its changes. Revision 0, before any other,
-    /// gives its properties.
+    // A node more of the revision that is read. No revision is whole by it.
+    fn add_node(&mut self, node: ReadNode) -> Result<Option<RevRecord>, Refusal>
+        ensures taken { IfOk result (λ out. TakesNode (told_of self.old) node (told_of self.new) (revs_of out)) }
+        ensures refused { IfErr result (λ e. (e ≡ Refusal.OutOfMemory) ⊎ CantTakeNode (told_of self.old) e) }
+        ensures no_peer { IfErr result (λ e. e ≡ Refusal.PeerFailed → ⊥) }
+    {
+        match self.last.add_node(node) {
+            Ok(()) => Ok(None),
+            Err(fault) => Err(fault),
+        }
+    }
+
+    /// Judges the revision that is read, if there is one: its number, then its texts, then its changes. Revision 0,
+    /// before any other, gives its properties.
     pub fn close(&mut self) -> Result<Option<RevRecord>, Refusal>
         ensures closed { IfOk result (λ out. Closes (told_of self.old) (told_of self.new) (revs_of out)) }
         ensures refused { IfErr result (λ e. (e ≡ Refusal.OutOfMemory) ⊎ CantClose (told_of self.old) e) }
@@ -122,13 +136,7 @@ impl History {
             props,
             nodes,
         } = revision;
-        if number.index() != self.trees.len() {
-            return Err(Refusal::WrongNumber);
-        }
-        let Applied { set, tree } = match nodes.load(&self.trees, number) {
-            Ok(loaded) => loaded,
-            Err(fault) => return Err(change_refusal(fault)),
-        };
+        let Applied { set, tree } = nodes.load(&self.trees, number)?;
         let Ok(nodes) = set.into_records(self.alloc) else {
             return Err(Refusal::OutOfMemory);
         };

@@ -5,11 +5,11 @@ ghost use Rattle.fleet_engines.specs.Histories.{open_in, rev_read};
 ghost use Rattle.fleet_engines.specs.Revisions.{Rev, is_past_zero};
 
 use crate::revision_nodes::RevisionNodes;
-use dump_text::NodeRecord;
 use node_base::{Props, Refusal, RevNo};
 use std::alloc::Global;
+use whole_texts::ReadNode;
 
-/// A revision that is read: its number, its properties, and its node records so far.
+/// A revision that is read: its number, its properties, and its nodes so far.
 #[derive(Drop)]
 pub struct ReadRevision {
     pub number: RevNo,
@@ -48,7 +48,7 @@ impl OpenRevision {
     }
 
     /// A node of it. One of no revision, or of revision 0, is WrongNumber (16); OutOfMemory (70).
-    pub fn add_node(&mut self, node: NodeRecord) -> Result<(), Refusal>
+    pub fn add_node(&mut self, node: ReadNode) -> Result<(), Refusal>
         ensures ok { OnOk result ((r : Rev) × (open_in self.old ≡ Some r)
             × (is_past_zero (open_in self.old) ≡ true)
             × (open_in self.new ≡ Some (record r { nodes = r.nodes ++ node ∷ [] }))) }

@@ -1,37 +1,40 @@
-//! The node records of a revision that is read. Once there are more than a set is made of, their paths alone are kept.
-ghost use Rattle.std.specs.Prelude.{◌≡◌, ◌≤◌, ◌<◌, ◌∷◌, ◌++◌, [], List, Some, length, map, IfOk, OnOk, OnErr};
+//! The nodes of a revision that is read. Once there are more than a set is made of, their paths alone are kept.
+ghost use Rattle.std.specs.Prelude.{◌≡◌, ◌≤◌, ◌<◌, ◌∷◌, ◌++◌, [], List, Some, length, map, IfOk, IfErr, OnOk, OnErr};
 ghost use Rattle.dump_load.specs.declared.change.Change.{Change};
-ghost use Rattle.dump_load.specs.Records.{change_of, set_fault};
+ghost use Rattle.dump_load.specs.Records.{set_fault};
+ghost use Rattle.node_base.specs.Props.{PropMap};
 ghost use Rattle.fleet_engines.specs.FirstPaths.{AreFirstPaths};
+ghost use Rattle.fleet_engines.specs.Revisions.{changes_of, Makes, IsUnfit};
+ghost use Rattle.whole_texts.specs.Whole.{node_in};
 
-use dump_load::{Applied, ChangeFault, load_revision};
-use dump_text::NodeRecord;
+use dump_load::{Applied, ChangeFault, change_refusal, load_revision};
 use node_base::limits::CHANGES;
-use node_base::{NodePath, RevNo};
+use node_base::{NodePath, Refusal, RevNo};
 use path_tree::Tree;
 use std::alloc::{AllocError, Global};
 use std::collections::BTreeSet;
 use std::snapshot::Snapshot;
+use whole_texts::{ReadNode, make_whole, text_refusal};
 
-/// How many node records of one revision are kept, two for each path that a set may have. More make no set, since two
+/// How many nodes of one revision are kept, two for each path that a set may have. More make no set, since two
 /// at most come together at one path: so they name more paths than a set may have (8), or some of them don't combine
 /// (15).
 pub const NODES: usize = 8_192;
 
-/// The node records of one revision, as they came. Up to 8,192 they are kept. From the next one on the paths are kept
-/// in their place, 4,097 at most, which say which of the two faults it is.
+/// The nodes of one revision, as they came. Up to 8,192 they are kept. From the next one on the paths are kept in their
+/// place, 4,097 at most, which say which of the two faults it is.
 #[derive(Drop)]
 pub struct RevisionNodes {
     alloc: Global,
-    kept: Vec<NodeRecord>,
+    kept: Vec<ReadNode>,
     paths: BTreeSet<NodePath>,
     // (snapshots, which take no memory)
-    pub(crate) came: Vec<Snapshot<NodeRecord>>,
+    pub(crate) came: Vec<Snapshot<ReadNode>>,
     ghost few: { length kept.items ≤ 8192 },
     ghost all: { length came.items ≤ 8192 → kept.items ≡ map (λ s. s.value) came.items },
     ghost few_paths: { length paths.keys ≤ 4097 },
     ghost named: { 8192 < length came.items
-        → AreFirstPaths paths.keys (map change_of (map (λ s. s.value) came.items)) },
+        → AreFirstPaths paths.keys (changes_of (map (λ s. s.value) came.items)) },
 }
 
 // A path more, unless there are too many already.
@@ -48,14 +51,14 @@ fn add_path(paths: &mut BTreeSet<NodePath>, path: NodePath) -> Result<(), AllocE
     Ok(())
 }
 
-// The paths of records.
-fn paths_of(alloc: Global, nodes: &[NodeRecord]) -> Result<BTreeSet<NodePath>, AllocError>
-    ensures named { IfOk result (λ paths. AreFirstPaths paths.keys (map change_of nodes.now)) }
+// The paths of nodes.
+fn paths_of(alloc: Global, nodes: &[ReadNode]) -> Result<BTreeSet<NodePath>, AllocError>
+    ensures named { IfOk result (λ paths. AreFirstPaths paths.keys (changes_of nodes.now)) }
     ensures few { IfOk result (λ paths. length paths.keys ≤ 4097) }
 {
     let mut paths = BTreeSet::new(alloc);
-    for node in nodes {
-        add_path(&mut paths, node.path.copy(alloc)?)?;
+    for read in nodes {
+        add_path(&mut paths, read.node.path.copy(alloc)?)?;
     }
     Ok(paths)
 }
@@ -70,17 +73,41 @@ fn fault_of(paths: &BTreeSet<NodePath>) -> ChangeFault
     ChangeFault::OutOfOrder
 }
 
-// A record's path.
-fn path_in(node: NodeRecord) -> NodePath
-    ensures { result ≡ node.path }
+// A node's path.
+fn path_in(read: ReadNode) -> NodePath
+    ensures { result ≡ (node_in read).path }
 {
+    let node = read.node;
     node.path
 }
 
+// The set that nodes make with the tree that it makes, over the trees before the revision: their texts are made whole
+// first.
+fn load_kept(
+    alloc: Global,
+    trees: &[Tree],
+    number: RevNo,
+    nodes: Vec<ReadNode>,
+) -> Result<Applied, Refusal>
+    requires next { number ≡ length trees.now }
+    requires few { length nodes.items ≤ 8192 }
+    ensures made { IfOk result (λ a. (props : PropMap)
+        → Makes trees.now (record { number = number; props = props; nodes = nodes.items }) a.set a.tree) }
+    ensures refused { IfErr result (λ e. (props : PropMap)
+        → IsUnfit trees.now (record { number = number; props = props; nodes = nodes.items }) e) }
+    ensures no_peer { IfErr result (λ e. e ≡ Refusal.PeerFailed → ⊥) }
+{
+    let records = match make_whole(alloc, trees, nodes) {
+        Ok(records) => records,
+        Err(fault) => return Err(text_refusal(fault)),
+    };
+    match load_revision(alloc, trees, number, records) {
+        Ok(applied) => Ok(applied),
+        Err(fault) => Err(change_refusal(fault)),
+    }
+}
+
 impl RevisionNodes {
-    ghost use Rattle.std.specs.Prelude.{IfErr};
-    ghost use Rattle.dump_load.specs.Trees.{Makes};
-    ghost use Rattle.dump_load.specs.Records.{IsNormalSetOf, IsLoadRefusal};
     ghost use Rattle.fleet_engines.specs.Nodes.{nodes_of};
 
     /// None came yet.
@@ -96,7 +123,7 @@ impl RevisionNodes {
     }
 
     /// One more came.
-    pub fn push(&mut self, node: NodeRecord) -> Result<(), AllocError>
+    pub fn push(&mut self, node: ReadNode) -> Result<(), AllocError>
         ensures { OnOk result (nodes_of self.new ≡ nodes_of self.old ++ node ∷ []) }
     {
         let came = self.came.len();
@@ -110,7 +137,7 @@ impl RevisionNodes {
     }
 
     // It is kept.
-    fn keep(&mut self, node: NodeRecord) -> Result<(), AllocError>
+    fn keep(&mut self, node: ReadNode) -> Result<(), AllocError>
         requires { length self.old.came.items < 8192 }
         ensures { OnOk result (nodes_of self.new ≡ nodes_of self.old ++ node ∷ []) }
     {
@@ -122,7 +149,7 @@ impl RevisionNodes {
     }
 
     // It is one too many: the paths of all are kept from now on.
-    fn pass(&mut self, node: NodeRecord) -> Result<(), AllocError>
+    fn pass(&mut self, node: ReadNode) -> Result<(), AllocError>
         requires { length self.old.came.items ≡ 8192 }
         ensures { OnOk result (nodes_of self.new ≡ nodes_of self.old ++ node ∷ []) }
     {
@@ -137,7 +164,7 @@ impl RevisionNodes {
     }
 
     // Its path is kept, where it is a new one.
-    fn note(&mut self, node: NodeRecord) -> Result<(), AllocError>
+    fn note(&mut self, node: ReadNode) -> Result<(), AllocError>
         requires { 8192 < length self.old.came.items }
         ensures { OnOk result (nodes_of self.new ≡ nodes_of self.old ++ node ∷ []) }
     {
@@ -149,20 +176,21 @@ impl RevisionNodes {
     }
 
     /// The set that all make with the tree that it makes, over the trees before the revision. Refused are a number
-    /// that isn't the next one (16), then what makes no set, then the set's first fault.
-    pub fn load(self, trees: &[Tree], number: RevNo) -> Result<Applied, ChangeFault>
-        requires { length trees.now ≤ 65535 }
-        ensures number { OnOk result (number ≡ length trees.now) }
-        ensures set { IfOk result (λ a. IsNormalSetOf trees.now (nodes_of self) a.set) }
-        ensures makes { IfOk result (λ a. Makes trees.now a.set a.tree) }
-        ensures refused { IfErr result (λ e. IsLoadRefusal trees.now number (nodes_of self) e) }
+    /// that isn't the next one (16), then more nodes than are kept, then a text that can't be made whole (6, 8, 11, 14,
+    /// 17, 44), then what makes no set, then the set's first fault.
+    pub fn load(self, trees: &[Tree], number: RevNo) -> Result<Applied, Refusal>
+        ensures made { IfOk result (λ a. (props : PropMap)
+            → Makes trees.now (record { number = number; props = props; nodes = nodes_of self }) a.set a.tree) }
+        ensures refused { IfErr result (λ e. (props : PropMap)
+            → IsUnfit trees.now (record { number = number; props = props; nodes = nodes_of self }) e) }
+        ensures no_peer { IfErr result (λ e. e ≡ Refusal.PeerFailed → ⊥) }
     {
-        if self.came.len() <= NODES {
-            return load_revision(self.alloc, trees, number, self.kept);
-        }
         if number.index() != trees.len() {
-            return Err(ChangeFault::WrongNumber);
+            return Err(Refusal::WrongNumber);
         }
-        Err(fault_of(&self.paths))
+        if self.came.len() > NODES {
+            return Err(change_refusal(fault_of(&self.paths)));
+        }
+        load_kept(self.alloc, trees, number, self.kept)
     }
 }

@@ -1,8 +1,8 @@
 //! A dump that is read to its end, by whoever takes its records.
-ghost use Rattle.std.specs.Prelude.{◌≡◌, ◌<◌, ◌++◌, ℕ, List, length, IfErr, OnOk};
+ghost use Rattle.std.specs.Prelude.{◌≡◌, ◌<◌, ◌++◌, ℕ, Bool, List, length, IfErr, OnOk};
 ghost use Rattle.std.specs.Io.KnownBytes.{Consumes, IsAtEnd};
 ghost use Rattle.byte_streams.specs.Causes.{counts};
-ghost use Rattle.dump_text.specs.Streams.{fresh};
+ghost use Rattle.dump_text.specs.Streams.{fresh_by};
 ghost use Rattle.fleet_engines.specs.Runs.{BothCounted, Counted};
 ghost use Rattle.fleet_engines.specs.Takers.{place, Place, TakesAll, Stops, Reached, Done, Halts, OfStream};
 
@@ -15,6 +15,17 @@ use std::alloc::Global;
 
 // How many bytes are read at a time: 64 KiB.
 const PIECE: usize = 65_536;
+
+// A reader before the first byte, which takes texts that are given as deltas or refuses them.
+fn new_reader(alloc: Global, deltas: bool) -> DumpReader
+    ensures { result ≡ fresh_by deltas }
+{
+    if deltas {
+        DumpReader::taking_deltas(alloc)
+    } else {
+        DumpReader::new(alloc)
+    }
+}
 
 // Some records more.
 fn take_all<S, O, K: Taker<S, O>>(
@@ -44,12 +55,12 @@ fn feed<S, O, K: Taker<S, O>>(
     store: &mut S,
     output: &mut O,
 ) -> Result<(), Refusal>
-    ensures ok { OnOk result ((bytes : List ℕ) (first : Place K S O)
-        → Reached K.takes bytes reader.old first (place taker.old store.old output.old)
-        → Reached K.takes (bytes ++ piece.now) reader.new first (place taker.new store.new output.new)) }
-    ensures refused { IfErr result (λ e. (bytes rest : List ℕ) (first : Place K S O)
-        → Reached K.takes bytes reader.old first (place taker.old store.old output.old)
-        → Halts K.takes K.refuses K.cant_end ((bytes ++ piece.now) ++ rest) first e
+    ensures ok { OnOk result ((deltas : Bool) (bytes : List ℕ) (first : Place K S O)
+        → Reached deltas K.takes bytes reader.old first (place taker.old store.old output.old)
+        → Reached deltas K.takes (bytes ++ piece.now) reader.new first (place taker.new store.new output.new)) }
+    ensures refused { IfErr result (λ e. (deltas : Bool) (bytes rest : List ℕ) (first : Place K S O)
+        → Reached deltas K.takes bytes reader.old first (place taker.old store.old output.old)
+        → Halts deltas K.takes K.refuses K.cant_end ((bytes ++ piece.now) ++ rest) first e
         (place taker.new store.new output.new)) }
     ensures peer { Counted result (K.failures output.old) (K.failures output.new) }
 {
@@ -72,14 +83,14 @@ fn read_all<S, O, K: Taker<S, O>, I: Input>(
     output: &mut O,
     input: &mut I,
 ) -> Result<(), Refusal>
-    requires begins { reader.old ≡ fresh }
+    requires begins { reader.old ≡ fresh_by reader.old.head.deltas }
     requires room { 0 < length piece.old }
     ensures ok { OnOk result ((bytes : List ℕ) × Consumes (I.remaining input.old) (I.remaining input.new) bytes
         × IsAtEnd (I.remaining input.new)
-        × Reached K.takes bytes reader.new (place taker.old store.old output.old)
+        × Reached reader.old.head.deltas K.takes bytes reader.new (place taker.old store.old output.old)
         (place taker.new store.new output.new)) }
     ensures refused { IfErr result (λ e. OfStream (I.remaining input.old) (I.remaining input.new) (λ bytes.
-        Halts K.takes K.refuses K.cant_end bytes (place taker.old store.old output.old) e
+        Halts reader.old.head.deltas K.takes K.refuses K.cant_end bytes (place taker.old store.old output.old) e
         (place taker.new store.new output.new))) }
     ensures peer { BothCounted result (counts I.failures I.reads input.old input.new) (K.failures output.old) (K.failures output.new) }
 {
@@ -96,6 +107,7 @@ fn read_all<S, O, K: Taker<S, O>, I: Input>(
 // A dump by way of a piece of memory, and its end.
 fn read_dump<S, O, K: Taker<S, O>, I: Input>(
     alloc: Global,
+    deltas: bool,
     taker: &mut K,
     piece: &mut [u8],
     store: &mut S,
@@ -104,13 +116,13 @@ fn read_dump<S, O, K: Taker<S, O>, I: Input>(
 ) -> Result<(), Refusal>
     requires { 0 < length piece.old }
     ensures ok { OnOk result (OfStream (I.remaining input.old) (I.remaining input.new) (λ bytes.
-        Done K.takes K.ends bytes (place taker.old store.old output.old) (place taker.new store.new output.new))) }
+        Done deltas K.takes K.ends bytes (place taker.old store.old output.old) (place taker.new store.new output.new))) }
     ensures refused { IfErr result (λ e. OfStream (I.remaining input.old) (I.remaining input.new) (λ bytes.
-        Halts K.takes K.refuses K.cant_end bytes (place taker.old store.old output.old) e
+        Halts deltas K.takes K.refuses K.cant_end bytes (place taker.old store.old output.old) e
         (place taker.new store.new output.new))) }
     ensures peer { BothCounted result (counts I.failures I.reads input.old input.new) (K.failures output.old) (K.failures output.new) }
 {
-    let mut reader = DumpReader::new(alloc);
+    let mut reader = new_reader(alloc, deltas);
     read_all(alloc, taker, &mut reader, piece, store, output, input)?;
     if let Err(fault) = reader.finish() {
         return Err(dump_refusal(fault));
@@ -118,24 +130,34 @@ fn read_dump<S, O, K: Taker<S, O>, I: Input>(
     taker.end(store, output)
 }
 
-/// Reads a dump piece by piece, and gives its records, and then its end, to who takes them. What is refused of them, a
-/// fault of the text (1 to 10), a failure of a stream (49) and want of memory (70) end it.
+/// Reads a dump piece by piece, and gives its records, and then its end, to who takes them. With `deltas` its texts may
+/// be given as deltas (else TextDelta, 9). What is refused of the records, a fault of the text (1 to 10), a failure of a
+/// stream (49) and want of memory (70) end it.
 pub fn read_stream<S, O, K: Taker<S, O>, I: Input>(
     alloc: Global,
+    deltas: bool,
     taker: &mut K,
     store: &mut S,
     output: &mut O,
     input: &mut I,
 ) -> Result<(), Refusal>
     ensures ok { OnOk result (OfStream (I.remaining input.old) (I.remaining input.new) (λ bytes.
-        Done K.takes K.ends bytes (place taker.old store.old output.old) (place taker.new store.new output.new))) }
+        Done deltas K.takes K.ends bytes (place taker.old store.old output.old) (place taker.new store.new output.new))) }
     ensures refused { IfErr result (λ e. OfStream (I.remaining input.old) (I.remaining input.new) (λ bytes.
-        Halts K.takes K.refuses K.cant_end bytes (place taker.old store.old output.old) e
+        Halts deltas K.takes K.refuses K.cant_end bytes (place taker.old store.old output.old) e
         (place taker.new store.new output.new))) }
     ensures peer { BothCounted result (counts I.failures I.reads input.old input.new) (K.failures output.old) (K.failures output.new) }
 {
     match Vec::from_elem(alloc, 0u8, PIECE) {
-        Ok(mut piece) => read_dump(alloc, taker, piece.as_mut_slice(), store, output, input),
+        Ok(mut piece) => read_dump(
+            alloc,
+            deltas,
+            taker,
+            piece.as_mut_slice(),
+            store,
+            output,
+            input,
+        ),
         Err(_) => Err(Refusal::OutOfMemory),
     }
 }

@@ -12,7 +12,7 @@ use Rattle.fleet_engines.proofs.commands.run_list.Goals as goal
 pub returns-in_err-history-clause-refused : goal.returns-in_err-history-clause-refused
 returns-in_err-history-clause-refused g c =
     let p = err_from_is_err_and c.from_residual.result c.from_residual.ensures.1 in
-    rw (p.1, p.2) (inr (first_refused ListIt (g.O.Output.contents c.args.output.now) (g.I.Input.remaining c.args.input.now) c.in_err-history.field-0.0 c.in_err-history.ensures.memory))
+    rw (p.1, p.2) (inr (first_refused c.args.deltas ListIt (g.O.Output.contents c.args.output.now) (g.I.Input.remaining c.args.input.now) c.in_err-history.field-0.0 c.in_err-history.ensures.memory))
 
 pub returns-in_err-history-clause-peer : goal.returns-in_err-history-clause-peer
 returns-in_err-history-clause-peer g c =
@@ -26,7 +26,7 @@ returns-clause-ok g c =
     let start = g.O.Output.contents c.args.output.now in
     let later = g.O.Output.contents c.read_stream-done.new.output in
     on_ok_weaker c.read_stream-done.result
-    (λ k. of_stream a b _ (λ bytes. Accepted ListIt bytes start later) k (λ bytes d. accepted (held {K = Lister} g.O.Output) ListIt bytes _ _ d c.in_ok-history.ensures.new))
+    (λ k. of_stream a b _ (λ bytes. Accepted c.args.deltas ListIt bytes start later) k (λ bytes d. accepted (held {K = Lister} g.O.Output) c.args.deltas ListIt bytes _ _ d c.in_ok-history.ensures.new))
     c.read_stream-done.ensures.ok
 
 pub returns-clause-refused : goal.returns-clause-refused
@@ -37,6 +37,6 @@ returns-clause-refused g c =
     let later = g.O.Output.contents c.read_stream-done.new.output in
     let failed = Rose (g.O.Output.failures c.args.output.now) (g.O.Output.failures c.read_stream-done.new.output) in
     IfErr-weaker c.read_stream-done.result _ _
-    (λ e k. some_or a failed (λ bytes. Refused ListIt bytes start later e)
-    (of_stream a b _ (λ bytes. failed ⊎ Refused ListIt bytes start later e) k (λ bytes h. refused (held {K = Lister} g.O.Output) ListIt bytes _ e _ h c.in_ok-history.ensures.new)))
+    (λ e k. some_or a failed (λ bytes. Refused c.args.deltas ListIt bytes start later e)
+    (of_stream a b _ (λ bytes. failed ⊎ Refused c.args.deltas ListIt bytes start later e) k (λ bytes h. refused (held {K = Lister} g.O.Output) c.args.deltas ListIt bytes _ e _ h c.in_ok-history.ensures.new)))
     c.read_stream-done.ensures.refused

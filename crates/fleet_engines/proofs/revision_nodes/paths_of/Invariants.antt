@@ -1,7 +1,7 @@
-use Rattle.std.proofs.Common.{◌≤◌, length, map, take}
-use Rattle.dump_load.specs.Records.{change_of}
+use Rattle.std.proofs.Common.{◌≤◌, length, take}
 use Rattle.fleet_engines.specs.FirstPaths.{AreFirstPaths}
+use Rattle.fleet_engines.specs.Revisions.{changes_of}
 use Rattle.fleet_engines.proofs.revision_nodes.paths_of.Given as goal
 
-abbrev pub invariant-loop-node : goal.invariant-loop-node
-invariant-loop-node l = AreFirstPaths l.paths.keys (map change_of (take l.node-index l.nodes)) × (length l.paths.keys ≤ 4097)
+abbrev pub invariant-loop-read : goal.invariant-loop-read
+invariant-loop-read l = AreFirstPaths l.paths.keys (changes_of (take l.read-index l.nodes)) × (length l.paths.keys ≤ 4097)

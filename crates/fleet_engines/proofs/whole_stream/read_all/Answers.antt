@@ -27,7 +27,7 @@ loop-turn-preserved g c =
     let piece = take c.in_ok-n.n c.read.new.piece in (
       i.0 ++ piece,
       Consumes-trans (g.I.Input.remaining c.args.input.now) (g.I.Input.remaining c.loop-turn.input) (g.I.Input.remaining c.read.new.input) i.0 piece i.1 c.in_ok-n.ensures.bytes,
-      c.in_ok-feed.ensures.ok i.0 (place c.args.taker.now c.args.store.now c.args.output.now) i.2,
+      c.in_ok-feed.ensures.ok c.args.reader.now.head.deltas i.0 (place c.args.taker.now c.args.store.now c.args.output.now) i.2,
       c.in_ok-n.ensures.working ∙ i.3,
       counts_on c.loop-turn._turn (g.I.Input.reads c.args.input.now) (g.I.Input.reads c.loop-turn.input) (g.I.Input.reads c.read.new.input) i.4 c.read.ensures.counted,
       c.in_ok-feed.ensures.peer ∙ i.5,
@@ -44,7 +44,7 @@ returns-in_err-n-clause-refused g c =
     (record {
       bytes = i.0;
       read = Consumes-kept (g.I.Input.remaining c.args.input.now) (g.I.Input.remaining c.loop-turn.input) (g.I.Input.remaining c.read.new.input) i.0 i.1 c.in_err-n.ensures.none;
-      holds = inl (λ rest. peer_failed k.takes k.refuses k.cant_end i.0 rest c.loop-turn.reader first now c.in_err-n.field-0.0 c.in_err-n.ensures.only_peer i.2);
+      holds = inl (λ rest. peer_failed c.args.reader.now.head.deltas k.takes k.refuses k.cant_end i.0 rest c.loop-turn.reader first now c.in_err-n.field-0.0 c.in_err-n.ensures.only_peer i.2);
     })
 
 pub returns-in_err-n-clause-peer : goal.returns-in_err-n-clause-peer
@@ -82,7 +82,7 @@ returns-in_err-feed-clause-refused g c =
     (record {
       bytes = i.0 ++ piece;
       read = Consumes-trans (g.I.Input.remaining c.args.input.now) (g.I.Input.remaining c.loop-turn.input) (g.I.Input.remaining c.read.new.input) i.0 piece i.1 c.in_ok-n.ensures.bytes;
-      holds = inl (λ rest. c.in_err-feed.ensures.refused i.0 rest (place c.args.taker.now c.args.store.now c.args.output.now) i.2);
+      holds = inl (λ rest. c.in_err-feed.ensures.refused c.args.reader.now.head.deltas i.0 rest (place c.args.taker.now c.args.store.now c.args.output.now) i.2);
     })
 
 pub returns-in_err-feed-clause-peer : goal.returns-in_err-feed-clause-peer
@@ -99,7 +99,7 @@ returns-clause-refused g c =
     let i = c.loop-turn.invariant in
     let first = place c.args.taker.now c.args.store.now c.args.output.now in
     let now = place c.loop-turn.taker c.loop-turn.store c.loop-turn.output in
-    record { bytes = i.0; read = i.1; holds = inl (λ rest. peer_failed k.takes k.refuses k.cant_end i.0 rest c.loop-turn.reader first now PeerFailed refl i.2) }
+    record { bytes = i.0; read = i.1; holds = inl (λ rest. peer_failed c.args.reader.now.head.deltas k.takes k.refuses k.cant_end i.0 rest c.loop-turn.reader first now PeerFailed refl i.2) }
 
 pub returns-clause-peer : goal.returns-clause-peer
 returns-clause-peer g c =
