@@ -28,6 +28,11 @@ use Rattle.repo_store.specs.declared.fault.StoreFault.{StoreFault}
 use Rattle.repo_store.specs.declared.fault.StoreFault.TheVariants.{Repo, Log}
 use Rattle.repo_store.proofs.Going.{rose_on}
 use Rattle.dump_load.specs.Faults.{change_refusal}
+use Rattle.node_base.specs.Tree.{PathMap}
+use Rattle.whole_texts.specs.Refusals.{text_refusal}
+use Rattle.whole_texts.specs.declared.refusal.TextRefusal.{TextRefusal}
+use Rattle.whole_texts.specs.declared.refusal.TextRefusal.TheVariants as text
+use Rattle.fleet_engines.specs.Revisions.{Rev, IsUnfit, not_next, too_many, not_whole, not_made}
 use Rattle.store_engines.specs.Devices.{is_device, repository_after, IsSafe, CantKeep, IsOnTheWay, Serves, failed_before, no_room, device_fails}
 use Rattle.store_engines.specs.Refusals.{repo_refusal, store_refusal}
 
@@ -45,6 +50,21 @@ change_no_device change.OutOfOrder = refl
 change_no_device change.WrongNumber = refl
 change_no_device change.KindMismatch = refl
 change_no_device change.OutOfMemory = refl
+
+text_no_device : (f : TextRefusal) → is_device (text_refusal f) ≡ false
+text_no_device text.NoSuchPath = refl
+text_no_device text.NoSource = refl
+text_no_device text.KindMismatch = refl
+text_no_device text.BadSum = refl
+text_no_device text.BadWindow = refl
+text_no_device text.TooLong = refl
+text_no_device text.OutOfMemory = refl
+
+pub unfit_no_device : (trees : List PathMap) (r : Rev) (e : Refusal) → IsUnfit trees r e → is_device e ≡ false
+unfit_no_device trees r e (not_next far is) = ap is_device is
+unfit_no_device trees r e (too_many f next many due is) = ap is_device is ∙ change_no_device f
+unfit_no_device trees r e (not_whole f next few due is) = ap is_device is ∙ text_no_device f
+unfit_no_device trees r e (not_made whole f few have due is) = ap is_device is ∙ change_no_device f
 
 repo_no_device : (f : RepoFault) → is_device (repo_refusal f) ≡ false
 repo_no_device core.NoSuchRevision = refl

@@ -1,5 +1,5 @@
 -- A whole load, from its records.
-use Rattle.std.proofs.Common.{◌≡◌, ℕ, ◌⊎◌, true, false, List, [], ◌∷◌, ◌++◌, Option, None, IfSome, Result, Ok, Err, IfErr, refl, sym, ap, subst, ◌∙◌, append_assoc, append-nil, inl, inr}
+use Rattle.std.proofs.Common.{◌≡◌, ℕ, ◌⊎◌, Bool, true, false, List, [], ◌∷◌, ◌++◌, Option, None, IfSome, Result, Ok, Err, IfErr, refl, sym, ap, subst, ◌∙◌, append_assoc, append-nil, inl, inr}
 use Rattle.std.specs.List.{filter}
 use Rattle.std.specs.Result.{OnOk}
 use Rattle.std.proofs.lemmas.Bool.{true≢false}
@@ -8,7 +8,7 @@ use Rattle.byte_streams.specs.Causes.{Rose}
 use Rattle.node_base.specs.declared.refusal.Refusal.{Refusal}
 use Rattle.node_base.specs.declared.refusal.Refusal.TheVariants.{OutOfMemory, PeerFailed}
 use Rattle.dump_text.specs.Faults.{dump_refusal}
-use Rattle.dump_text.specs.Streams.{dump, records_of}
+use Rattle.dump_text.specs.Streams.{dump_by, records_of}
 use Rattle.dump_text.specs.declared.fault.DumpFault.{DumpFault}
 use Rattle.dump_text.specs.declared.fault.DumpFault.TheVariants as fault
 use Rattle.dump_text.specs.declared.record.DumpRecord.{DumpRecord}
@@ -131,66 +131,66 @@ module _ {D T : Type 0} {G : Ghosts D} (R : ReportGhosts T) where
   from_first : (rs : List DumpRecord) (p q : Place Loader (RepoStore D G) T) → last_of p.taker ≡ None → TakesAll (TakesRecord R) p rs q → Goes R (filter is_no_identity rs) p q (Ok tt) (read_of (last_of q.taker))
   from_first rs p q none t = subst (λ l. Goes R (read_of l ++ filter is_no_identity rs) p q (Ok tt) (read_of (last_of q.taker))) none (all_go rs p q t)
 
-  pub loaded : (bytes : List ℕ) (p q : Place Loader (RepoStore D G) T) → Done (TakesRecord R) (EndsLoad R) bytes p q → last_of p.taker ≡ None → Loaded (repository_of p.store) bytes (repository_of q.store) (R.contents p.output) (R.contents q.output)
-  loaded bytes p q d none =
+  pub loaded : (deltas : Bool) (bytes : List ℕ) (p q : Place Loader (RepoStore D G) T) → Done deltas (TakesRecord R) (EndsLoad R) bytes p q → last_of p.taker ≡ None → Loaded deltas (repository_of p.store) bytes (repository_of q.store) (R.contents p.output) (R.contents q.output)
+  loaded deltas bytes p q d none =
       let rs = d.reached.records in
       record { records = rs; reader = d.reader; read = d.reached.read; ended = d.ended; gathered = d.end.gathers (repository_of p.store) rs (R.contents p.output) (all_stand rs p d.before none d.reached.taken) }
 
-  pub not_loaded : (bytes : List ℕ) (p : Place Loader (RepoStore D G) T) (e : Refusal) (q : Place Loader (RepoStore D G) T) → Halts (TakesRecord R) (RefusesRecord R) (CantEndLoad R) bytes p e q → last_of p.taker ≡ None
-      → Refused (repository_of p.store) bytes q.store (R.contents p.output) (R.contents q.output) (Rose (R.failures p.output) (R.failures q.output)) e
-  not_loaded bytes p e q (record_refused rs next more before is taken why) none =
+  pub not_loaded : (deltas : Bool) (bytes : List ℕ) (p : Place Loader (RepoStore D G) T) (e : Refusal) (q : Place Loader (RepoStore D G) T) → Halts deltas (TakesRecord R) (RefusesRecord R) (CantEndLoad R) bytes p e q → last_of p.taker ≡ None
+      → Refused deltas (repository_of p.store) bytes q.store (R.contents p.output) (R.contents q.output) (Rose (R.failures p.output) (R.failures q.output)) e
+  not_loaded deltas bytes p e q (record_refused rs next more before is taken why) none =
       let x = repository_of p.store in
       let start = R.contents p.output in
       at_record rs next more is (subst (λ n. CantTake x rs next q.store start (R.contents q.output) (Rose n (R.failures q.output)) e) (all_work rs p before taken) (why.why x rs start (all_stand rs p before none taken)))
-  not_loaded bytes p e q (byte_refused rs f is taken d) none = at_byte rs f (last_of q.taker) is (all_stand rs p q none taken) d
-  not_loaded bytes p e q (cut_short reader r between d) none = is_cut r.records reader (last_of q.taker) r.read between (all_stand r.records p q none r.taken) d
-  not_loaded bytes p e q (end_refused reader before r between why) none =
+  not_loaded deltas bytes p e q (byte_refused rs f is taken d) none = at_byte rs f (last_of q.taker) is (all_stand rs p q none taken) d
+  not_loaded deltas bytes p e q (cut_short reader r between d) none = is_cut r.records reader (last_of q.taker) r.read between (all_stand r.records p q none r.taken) d
+  not_loaded deltas bytes p e q (end_refused reader before r between why) none =
       let x = repository_of p.store in
       let rs = r.records in
       let start = R.contents p.output in
       at_end rs reader r.read between (subst (λ n. CantClose x rs q.store start (R.contents q.output) (Rose n (R.failures q.output)) e) (all_work rs p before r.taken) (why.why x rs start (all_stand rs p before none r.taken)))
-  not_loaded bytes p e q (stopped rs more is taken w) none = is_stopped rs more (last_of q.taker) is (all_stand rs p q none taken) w
+  not_loaded deltas bytes p e q (stopped rs more is taken w) none = is_stopped rs more (last_of q.taker) is (all_stand rs p q none taken) w
 
   -- what it did to the device, and what it told
-  done_goes : (bytes : List ℕ) (p q : Place Loader (RepoStore D G) T) → Done (TakesRecord R) (EndsLoad R) bytes p q → last_of p.taker ≡ None → Goes R (filter is_no_identity (records_of (dump bytes))) p q (Ok tt) []
-  done_goes bytes p q d none =
+  done_goes : (deltas : Bool) (bytes : List ℕ) (p q : Place Loader (RepoStore D G) T) → Done deltas (TakesRecord R) (EndsLoad R) bytes p q → last_of p.taker ≡ None → Goes R (filter is_no_identity (records_of (dump_by deltas bytes))) p q (Ok tt) []
+  done_goes deltas bytes p q d none =
       let rs = d.reached.records in
       subst (λ l. Goes R (filter is_no_identity l) p q (Ok tt) []) (sym (ap records_of d.reached.read))
       (goes_on (filter is_no_identity rs) (read_of (last_of d.before.taker)) [] p d.before q (Ok tt) (from_first rs p d.before none d.reached.taken) d.end.goes)
 
-  halted_goes : (bytes : List ℕ) (p : Place Loader (RepoStore D G) T) (e : Refusal) (q : Place Loader (RepoStore D G) T) → Halts (TakesRecord R) (RefusesRecord R) (CantEndLoad R) bytes p e q → last_of p.taker ≡ None → Goes R (filter is_no_identity (records_of (dump bytes))) p q (Err e) []
-  halted_goes bytes p e q (record_refused rs next more before is taken why) none =
+  halted_goes : (deltas : Bool) (bytes : List ℕ) (p : Place Loader (RepoStore D G) T) (e : Refusal) (q : Place Loader (RepoStore D G) T) → Halts deltas (TakesRecord R) (RefusesRecord R) (CantEndLoad R) bytes p e q → last_of p.taker ≡ None → Goes R (filter is_no_identity (records_of (dump_by deltas bytes))) p q (Err e) []
+  halted_goes deltas bytes p e q (record_refused rs next more before is taken why) none =
       let f = filter is_no_identity in
       let last = read_of (last_of before.taker) in
       let left = read_of (last_of q.taker) ++ f more in
-      let all : f rs ++ f (next ∷ more) ≡ f (records_of (dump bytes)) = sym (filter-append is_no_identity rs (next ∷ more)) ∙ ap f (sym is) in
+      let all : f rs ++ f (next ∷ more) ≡ f (records_of (dump_by deltas bytes)) = sym (filter-append is_no_identity rs (next ∷ more)) ∙ ap f (sym is) in
       let behind : (last ++ f (next ∷ [])) ++ f more ≡ last ++ f (next ∷ more) = append_assoc last (f (next ∷ [])) (f more) ∙ ap (λ l. last ++ l) (sym (filter-append is_no_identity (next ∷ []) more)) in
       subst (λ l. Goes R l p q (Err e) []) all
       (goes_left (f rs ++ f (next ∷ more)) left p q e
       (goes_on (f rs ++ f (next ∷ more)) (last ++ f (next ∷ more)) left p before q (Err e) (goes_before (f rs) last (f (next ∷ more)) p before (Ok tt) (from_first rs p before none taken))
       (subst (λ l. Goes R l before q (Err e) left) behind (goes_before (last ++ f (next ∷ [])) (read_of (last_of q.taker)) (f more) before q (Err e) why.goes))))
-  halted_goes bytes p e q (byte_refused rs f is taken d) none =
+  halted_goes deltas bytes p e q (byte_refused rs f is taken d) none =
       subst (λ l. Goes R (filter is_no_identity l) p q (Err e) []) (sym (ap records_of is))
-      (goes_then (filter is_no_identity rs) (read_of (last_of q.taker)) p q e (ap is_device d ∙ not_device f (not_spent bytes rs f is)) (from_first rs p q none taken))
-  halted_goes bytes p e q (cut_short reader r between d) none =
+      (goes_then (filter is_no_identity rs) (read_of (last_of q.taker)) p q e (ap is_device d ∙ not_device f (not_spent deltas bytes rs f is)) (from_first rs p q none taken))
+  halted_goes deltas bytes p e q (cut_short reader r between d) none =
       subst (λ l. Goes R (filter is_no_identity l) p q (Err e) []) (sym (ap records_of r.read))
       (goes_then (filter is_no_identity r.records) (read_of (last_of q.taker)) p q e (ap is_device d) (from_first r.records p q none r.taken))
-  halted_goes bytes p e q (end_refused reader before r between why) none =
+  halted_goes deltas bytes p e q (end_refused reader before r between why) none =
       subst (λ l. Goes R (filter is_no_identity l) p q (Err e) []) (sym (ap records_of r.read))
       (goes_on (filter is_no_identity r.records) (read_of (last_of before.taker)) [] p before q (Err e) (from_first r.records p before none r.taken) why.goes)
-  halted_goes bytes p e q (stopped rs more is taken w) none =
+  halted_goes deltas bytes p e q (stopped rs more is taken w) none =
       let f = filter is_no_identity in
       let last = read_of (last_of q.taker) in
       subst (λ l. Goes R l p q (Err e) []) (sym (filter-append is_no_identity rs more) ∙ ap f (sym is))
       (goes_then (f rs ++ f more) (last ++ f more) p q e (lacks_no_device e w) (goes_before (f rs) last (f more) p q (Ok tt) (from_first rs p q none taken)))
 
   -- of known bytes, and of some
-  pub goes_known : (r : Result (Unit {0}) Refusal) (a b : Option (List ℕ)) (p q : Place Loader (RepoStore D G) T) → OnOk r (OfStream a b (λ bytes. Done (TakesRecord R) (EndsLoad R) bytes p q)) → IfErr r (λ e. OfStream a b (λ bytes. Halts (TakesRecord R) (RefusesRecord R) (CantEndLoad R) bytes p e q))
-      → last_of p.taker ≡ None → IfSome a (λ bytes. Goes R (filter is_no_identity (records_of (dump bytes))) p q r [])
-  goes_known (Ok u) a b p q ok err none = of_stream a b _ (λ bytes. Goes R (filter is_no_identity (records_of (dump bytes))) p q (Ok tt) []) ok (λ bytes d. done_goes bytes p q d none)
-  goes_known (Err e) a b p q ok err none = of_stream a b _ (λ bytes. Goes R (filter is_no_identity (records_of (dump bytes))) p q (Err e) []) err (λ bytes h. halted_goes bytes p e q h none)
+  pub goes_known : (deltas : Bool) (r : Result (Unit {0}) Refusal) (a b : Option (List ℕ)) (p q : Place Loader (RepoStore D G) T) → OnOk r (OfStream a b (λ bytes. Done deltas (TakesRecord R) (EndsLoad R) bytes p q)) → IfErr r (λ e. OfStream a b (λ bytes. Halts deltas (TakesRecord R) (RefusesRecord R) (CantEndLoad R) bytes p e q))
+      → last_of p.taker ≡ None → IfSome a (λ bytes. Goes R (filter is_no_identity (records_of (dump_by deltas bytes))) p q r [])
+  goes_known deltas (Ok u) a b p q ok err none = of_stream a b _ (λ bytes. Goes R (filter is_no_identity (records_of (dump_by deltas bytes))) p q (Ok tt) []) ok (λ bytes d. done_goes deltas bytes p q d none)
+  goes_known deltas (Err e) a b p q ok err none = of_stream a b _ (λ bytes. Goes R (filter is_no_identity (records_of (dump_by deltas bytes))) p q (Err e) []) err (λ bytes h. halted_goes deltas bytes p e q h none)
 
-  pub goes_some : (r : Result (Unit {0}) Refusal) (a b : Option (List ℕ)) (p q : Place Loader (RepoStore D G) T) → OnOk r (OfStream a b (λ bytes. Done (TakesRecord R) (EndsLoad R) bytes p q)) → IfErr r (λ e. OfStream a b (λ bytes. Halts (TakesRecord R) (RefusesRecord R) (CantEndLoad R) bytes p e q))
-      → last_of p.taker ≡ None → (bytes : List ℕ) × Goes R (filter is_no_identity (records_of (dump bytes))) p q r []
-  goes_some (Ok u) a b p q ok err none = let s = of_some a b _ ok in (s.0, done_goes s.0 p q s.1 none)
-  goes_some (Err e) a b p q ok err none = let s = of_some a b _ err in (s.0, halted_goes s.0 p e q s.1 none)
+  pub goes_some : (deltas : Bool) (r : Result (Unit {0}) Refusal) (a b : Option (List ℕ)) (p q : Place Loader (RepoStore D G) T) → OnOk r (OfStream a b (λ bytes. Done deltas (TakesRecord R) (EndsLoad R) bytes p q)) → IfErr r (λ e. OfStream a b (λ bytes. Halts deltas (TakesRecord R) (RefusesRecord R) (CantEndLoad R) bytes p e q))
+      → last_of p.taker ≡ None → (bytes : List ℕ) × Goes R (filter is_no_identity (records_of (dump_by deltas bytes))) p q r []
+  goes_some deltas (Ok u) a b p q ok err none = let s = of_some a b _ ok in (s.0, done_goes deltas s.0 p q s.1 none)
+  goes_some deltas (Err e) a b p q ok err none = let s = of_some a b _ err in (s.0, halted_goes deltas s.0 p e q s.1 none)

@@ -21,15 +21,15 @@ use Rattle.std.proofs.lemmas.List.{length-map}
 use Rattle.node_base.specs.Props.{PropMap}
 use Rattle.node_base.specs.declared.refusal.Refusal.{Refusal}
 use Rattle.node_base.specs.declared.refusal.Refusal.TheVariants as refusal
-use Rattle.dump_text.specs.declared.record.NodeRecord.{NodeRecord}
 use Rattle.dump_text.specs.declared.record.DumpRecord.{DumpRecord}
-use Rattle.dump_text.specs.declared.record.DumpRecord.TheVariants.{Revision as Begins, Node}
+use Rattle.dump_text.specs.declared.record.DumpRecord.TheVariants.{Revision as Begins}
+use Rattle.whole_texts.specs.declared.read_node.ReadNode.{ReadNode}
 use Rattle.repo_core.specs.Repository.{Repository, Revision, trees_of, head_of}
 use Rattle.repo_core.specs.Entries.{with_entry_in}
 use Rattle.repo_core.specs.declared.entry.Entry.{Entry}
 use Rattle.fleet_engines.specs.Runs.{Counted}
 use Rattle.fleet_engines.specs.Revisions.{Rev, Makes, is_lone, is_zero, is_past_zero}
-use Rattle.fleet_engines.specs.Grouping.{records_of_rev}
+use Rattle.fleet_engines.specs.Grouping.{record_of_node, records_of_rev}
 use Rattle.fleet_disk.specs.declared.disk.Disk.{Ghosts}
 use Rattle.repo_store.specs.Words.{repository_of}
 use Rattle.repo_store.specs.declared.store.RepoStore.{RepoStore}
@@ -81,7 +81,7 @@ pub cant_take : {D : Type 0} {G : Ghosts D} (x : Repository) (rs : List DumpReco
 cant_take x rs next z start now fails e n props d k = not_closed n props d k
 
 -- a node can't be taken
-pub node_refused : {D : Type 0} {G : Ghosts D} (x : Repository) (rs : List DumpRecord) (next : DumpRecord) (node : NodeRecord) (y : RepoStore D G) (last : Option Rev) (start now : Option (List ℕ)) (fails : Type 0) (e : Refusal) → next ≡ Node node → (e ≡ refusal.OutOfMemory) ⊎ ((e ≡ refusal.WrongNumber) × (is_past_zero last ≡ false)) → Stands x rs (repository_of y) last start now → CantTake x rs next y start now fails e
+pub node_refused : {D : Type 0} {G : Ghosts D} (x : Repository) (rs : List DumpRecord) (next : DumpRecord) (node : ReadNode) (y : RepoStore D G) (last : Option Rev) (start now : Option (List ℕ)) (fails : Type 0) (e : Refusal) → next ≡ record_of_node node → (e ≡ refusal.OutOfMemory) ⊎ ((e ≡ refusal.WrongNumber) × (is_past_zero last ≡ false)) → Stands x rs (repository_of y) last start now → CantTake x rs next y start now fails e
 node_refused x rs next node y last start now fails e d (inl m) s = take_stops last s m
 node_refused x rs next node y last start now fails e d (inr w) s = no_revision node last d s w.1 w.0
 

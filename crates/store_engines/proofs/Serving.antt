@@ -1,5 +1,5 @@
 -- What a load does to a store's device, and whose entries it takes.
-use Rattle.std.proofs.Common.{◌≡◌, ℕ, ◌⊎◌, ◌↔◌, true, false, List, [], ◌∷◌, ◌++◌, length, Result, Ok, Err, IfErr, Option, Some, None, refl, sym, ap, subst, ◌∙◌, append_assoc, append-nil, inl, inr}
+use Rattle.std.proofs.Common.{◌≡◌, ℕ, ◌⊎◌, ◌↔◌, true, false, cond, List, [], ◌∷◌, ◌++◌, length, Result, Ok, Err, IfErr, Option, Some, None, refl, sym, ap, subst, ◌∙◌, append_assoc, append-nil, inl, inr}
 use Rattle.std.specs.List.{filter, flat_map}
 use Rattle.std.specs.Result.{OnOk, IsErr}
 use Rattle.std.proofs.lemmas.Bool.{false≢true}
@@ -10,13 +10,14 @@ use Rattle.node_base.specs.Props.{PropMap}
 use Rattle.node_base.specs.Tree.{PathMap}
 use Rattle.node_base.specs.declared.refusal.Refusal.{Refusal}
 use Rattle.node_base.specs.declared.refusal.Refusal.TheVariants.{OutOfMemory, PeerFailed, WrongNumber}
-use Rattle.dump_text.specs.declared.record.NodeRecord.{NodeRecord}
 use Rattle.dump_text.specs.declared.record.DumpRecord.{DumpRecord}
-use Rattle.dump_text.specs.declared.record.DumpRecord.TheVariants.{Identity, Revision as Begins, Node}
+use Rattle.dump_text.specs.declared.record.DumpRecord.TheVariants.{Identity, Revision as Begins}
+use Rattle.whole_texts.specs.declared.read_node.ReadNode.{ReadNode}
 use Rattle.dump_load.specs.declared.change.Change.{Change}
 use Rattle.fleet_disk.specs.declared.disk.Disk.{Ghosts}
 use Rattle.gate_log.specs.Log.{entries_of, version_of}
-use Rattle.fleet_engines.specs.Grouping.{records_of_rev, is_no_identity}
+use Rattle.fleet_engines.specs.Grouping.{record_of_node, records_of_rev, is_no_identity}
+use Rattle.fleet_engines.proofs.Groups.{no_identity}
 use Rattle.fleet_engines.specs.Revisions.{Rev, Makes, is_zero, is_past_zero}
 use Rattle.repo_core.specs.Entries.{revisions_after, with_entry}
 use Rattle.repo_core.specs.Refusals.{IsDue}
@@ -194,11 +195,12 @@ no_device (Err e) late (inl m) = ap is_device m
 no_device (Err e) late (inr m) = ap is_device m.0
 
 -- a node more
-pub node_left : (last later : Option Rev) (next : DumpRecord) (node : NodeRecord) → next ≡ Node node → (r : Rev) × (last ≡ Some r) × (is_past_zero last ≡ true) × (later ≡ Some (record r { nodes = r.nodes ++ node ∷ [] })) → read_of last ++ filter is_no_identity (next ∷ []) ≡ read_of later
+pub node_left : (last later : Option Rev) (next : DumpRecord) (node : ReadNode) → next ≡ record_of_node node → (r : Rev) × (last ≡ Some r) × (is_past_zero last ≡ true) × (later ≡ Some (record r { nodes = r.nodes ++ node ∷ [] })) → read_of last ++ filter is_no_identity (next ∷ []) ≡ read_of later
 node_left last later next node e k =
     ap (λ v. read_of last ++ filter is_no_identity (v ∷ [])) e
-    ∙ ap (λ l. read_of l ++ Node node ∷ []) k.1
-    ∙ ap (λ l. Begins k.0.number k.0.props ∷ l) (sym (map-append Node k.0.nodes (node ∷ [])))
+    ∙ ap (λ b. read_of last ++ cond b (record_of_node node ∷ []) []) (no_identity node.node node.delta)
+    ∙ ap (λ l. read_of l ++ record_of_node node ∷ []) k.1
+    ∙ ap (λ l. Begins k.0.number k.0.props ∷ l) (sym (map-append record_of_node k.0.nodes (node ∷ [])))
     ∙ sym (ap read_of k.3)
 
 -- ---- a path

@@ -1,5 +1,5 @@
 -- What a load makes of a repository, revision by revision.
-use Rattle.std.specs.Prelude.{◌≡◌, ℕ, ◌⊎◌, true, false, List, [], ◌∷◌, ◌++◌, Option, Some, None, Result, IfErr, IfSome, IsErr, OnErr, OnOk, codes}
+use Rattle.std.specs.Prelude.{◌≡◌, ℕ, ◌⊎◌, Bool, true, false, List, [], ◌∷◌, ◌++◌, Option, Some, None, Result, IfErr, IfSome, IsErr, OnErr, OnOk, codes}
 use Rattle.std.specs.List.{filter, flat_map}
 use Rattle.std.specs.Fmt.{decimal}
 use Rattle.std.specs.Io.KnownBytes.{Appends}
@@ -7,12 +7,11 @@ use Rattle.node_base.specs.Props.{PropMap}
 use Rattle.node_base.specs.Tree.{PathMap}
 use Rattle.node_base.specs.declared.refusal.Refusal.{Refusal}
 use Rattle.node_base.specs.declared.refusal.Refusal.TheVariants as refusal
-use Rattle.dump_text.specs.declared.record.NodeRecord.{NodeRecord}
 use Rattle.dump_text.specs.declared.record.DumpRecord.{DumpRecord}
-use Rattle.dump_text.specs.declared.record.DumpRecord.TheVariants.{Revision as Begins, Node}
+use Rattle.dump_text.specs.declared.record.DumpRecord.TheVariants.{Revision as Begins}
 use Rattle.dump_text.specs.declared.fault.DumpFault.{DumpFault}
 use Rattle.dump_text.specs.declared.state.ReadState.{ReadState}
-use Rattle.dump_text.specs.Streams.{Reads, Refuses, dump, records_of, is_between}
+use Rattle.dump_text.specs.Streams.{Reads, Refuses, dump_by, records_of, is_between}
 use Rattle.dump_load.specs.declared.change.Change.{Change}
 use Rattle.repo_core.specs.Repository.{Repository, Revision, trees_of, head_of}
 use Rattle.repo_core.specs.Entries.{with_entry, with_entry_in}
@@ -27,7 +26,8 @@ use Rattle.repo_store.specs.Words.{disk_of, repository_of, revisions_of}
 use Rattle.repo_store.specs.declared.store.RepoStore.{RepoStore}
 use Rattle.dump_text.specs.Faults.{dump_refusal}
 use Rattle.fleet_engines.specs.Revisions.{Rev, Makes, IsUnfit, is_zero, is_past_zero}
-use Rattle.fleet_engines.specs.Grouping.{records_of_rev, is_no_identity}
+use Rattle.fleet_engines.specs.Grouping.{record_of_node, records_of_rev, is_no_identity}
+use Rattle.whole_texts.specs.declared.read_node.ReadNode.{ReadNode}
 use Rattle.store_engines.specs.Devices.{CantKeep, IsSafe, Serves}
 use Rattle.store_engines.specs.Refusals.{repo_refusal}
 
@@ -99,28 +99,28 @@ pub data CantClose {D : Type 0} {G : Ghosts D} (x : Repository) (rs : List DumpR
 -- the next record isn't taken: the revision before it can't be closed; or it is a node, and no revision other than 0 is read; or memory runs out
 pub data CantTake {D : Type 0} {G : Ghosts D} (x : Repository) (rs : List DumpRecord) (next : DumpRecord) (store : RepoStore D G) (start now : Option (List ℕ)) (fails : Type 0) (e : Refusal) : Type 0 where
   not_closed : (n : ℕ) (props : PropMap) → next ≡ Begins n props → CantClose x rs store start now fails e → CantTake x rs next store start now fails e
-  no_revision : (node : NodeRecord) (last : Option Rev) → next ≡ Node node → Stands x rs (repository_of store) last start now → is_past_zero last ≡ false → e ≡ refusal.WrongNumber → CantTake x rs next store start now fails e
+  no_revision : (node : ReadNode) (last : Option Rev) → next ≡ record_of_node node → Stands x rs (repository_of store) last start now → is_past_zero last ≡ false → e ≡ refusal.WrongNumber → CantTake x rs next store start now fails e
   take_stops : (last : Option Rev) → Stands x rs (repository_of store) last start now → e ≡ refusal.OutOfMemory → CantTake x rs next store start now fails e
 
 -- some records more lead from what stood so to what stands so
 abbrev pub Moves : Repository → Option Rev → Option (List ℕ) → List DumpRecord → Repository → Option Rev → Option (List ℕ) → Type 0
 Moves y last before new z later now = (x : Repository) (rs : List DumpRecord) (start : Option (List ℕ)) → Stands x rs y last start before → Stands x (rs ++ new) z later start now
 
--- a dump is loaded whole: it is whole revisions, each of them is loaded, and is said
-pub record Loaded (x : Repository) (bytes : List ℕ) (y : Repository) (start now : Option (List ℕ)) : Type 0 where
+-- a dump, in which texts may be given as deltas or may not, is loaded whole: it is whole revisions, each of them is loaded, and is said
+pub record Loaded (deltas : Bool) (x : Repository) (bytes : List ℕ) (y : Repository) (start now : Option (List ℕ)) : Type 0 where
   pub records : List DumpRecord
   pub reader : ReadState
-  pub read : dump bytes ≡ Reads records reader
+  pub read : dump_by deltas bytes ≡ Reads records reader
   pub ended : is_between reader ≡ true
   pub gathered : Gathered x records y start now
 
 -- a load is refused, and what was loaded before stays: at the next record; or by the byte behind some records; or as the stream ends, in a record or behind the last one; or memory or a stream fails
-pub data Refused {D : Type 0} {G : Ghosts D} (x : Repository) (bytes : List ℕ) (store : RepoStore D G) (start now : Option (List ℕ)) (fails : Type 0) (e : Refusal) : Type 0 where
-  at_record : (rs : List DumpRecord) (next : DumpRecord) (more : List DumpRecord) → records_of (dump bytes) ≡ rs ++ next ∷ more → CantTake x rs next store start now fails e → Refused x bytes store start now fails e
-  at_byte : (rs : List DumpRecord) (f : DumpFault) (last : Option Rev) → dump bytes ≡ Refuses rs f → Stands x rs (repository_of store) last start now → e ≡ dump_refusal f → Refused x bytes store start now fails e
-  cut_short : (rs : List DumpRecord) (reader : ReadState) (last : Option Rev) → dump bytes ≡ Reads rs reader → is_between reader ≡ false → Stands x rs (repository_of store) last start now → e ≡ refusal.Truncated → Refused x bytes store start now fails e
-  at_end : (rs : List DumpRecord) (reader : ReadState) → dump bytes ≡ Reads rs reader → is_between reader ≡ true → CantClose x rs store start now fails e → Refused x bytes store start now fails e
-  stopped : (rs more : List DumpRecord) (last : Option Rev) → records_of (dump bytes) ≡ rs ++ more → Stands x rs (repository_of store) last start now → (e ≡ refusal.OutOfMemory) ⊎ (e ≡ refusal.PeerFailed) → Refused x bytes store start now fails e
+pub data Refused {D : Type 0} {G : Ghosts D} (deltas : Bool) (x : Repository) (bytes : List ℕ) (store : RepoStore D G) (start now : Option (List ℕ)) (fails : Type 0) (e : Refusal) : Type 0 where
+  at_record : (rs : List DumpRecord) (next : DumpRecord) (more : List DumpRecord) → records_of (dump_by deltas bytes) ≡ rs ++ next ∷ more → CantTake x rs next store start now fails e → Refused deltas x bytes store start now fails e
+  at_byte : (rs : List DumpRecord) (f : DumpFault) (last : Option Rev) → dump_by deltas bytes ≡ Refuses rs f → Stands x rs (repository_of store) last start now → e ≡ dump_refusal f → Refused deltas x bytes store start now fails e
+  cut_short : (rs : List DumpRecord) (reader : ReadState) (last : Option Rev) → dump_by deltas bytes ≡ Reads rs reader → is_between reader ≡ false → Stands x rs (repository_of store) last start now → e ≡ refusal.Truncated → Refused deltas x bytes store start now fails e
+  at_end : (rs : List DumpRecord) (reader : ReadState) → dump_by deltas bytes ≡ Reads rs reader → is_between reader ≡ true → CantClose x rs store start now fails e → Refused deltas x bytes store start now fails e
+  stopped : (rs more : List DumpRecord) (last : Option Rev) → records_of (dump_by deltas bytes) ≡ rs ++ more → Stands x rs (repository_of store) last start now → (e ≡ refusal.OutOfMemory) ⊎ (e ≡ refusal.PeerFailed) → Refused deltas x bytes store start now fails e
 
 -- over a repository's revisions a whole revision is this entry: revision 0 without others gives its properties, and another one is the next, with the set that it makes
 pub data IsEntryOf (x : List Revision) (r : Rev) (e : Entry) : Type 0 where

@@ -3,12 +3,13 @@
 //!
 //! ```text
 //! let Ok(mut store) = open_store(alloc, HostDisk::open(&rt, alloc, "folder")?) else { .. };
-//! run_load(alloc, &mut store, &mut input, &mut output)?;
+//! run_load(alloc, false, &mut store, &mut input, &mut output)?;
 //! run_dump(alloc, &store, None, &mut output)?;
 //! ```
 //!
-//! A load judges each revision whole before it commits it, and a refusal keeps what was committed before it. What is
-//! dumped is the canonical text of the revisions as they are now.
+//! A load judges each revision whole before it commits it, and a refusal keeps what was committed before it. Its flag
+//! says whether the dump's texts may be given as deltas. What is dumped is the canonical text of the revisions as they
+//! are now.
 #![tactic(auto)]
 
 pub use begin::{create_store, open_store};

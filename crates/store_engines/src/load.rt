@@ -7,7 +7,7 @@ ghost use Rattle.std.specs.Io.KnownBytes.{Appends};
 ghost use Rattle.byte_streams.specs.Causes.{Rose, counts};
 ghost use Rattle.node_base.specs.Props.{PropMap};
 ghost use Rattle.dump_load.specs.declared.change.Change.{Change as ChangeOf};
-ghost use Rattle.dump_text.specs.Streams.{dump, records_of};
+ghost use Rattle.dump_text.specs.Streams.{dump_by, records_of};
 ghost use Rattle.dump_text.specs.declared.record.DumpRecord.{DumpRecord as RecordOf};
 ghost use Rattle.repo_core.specs.Repository.{Repository, trees_of};
 ghost use Rattle.repo_core.specs.Entries.{with_entry_in};
@@ -33,7 +33,7 @@ use crate::commits::commit_applied;
 use crate::mirror::refuse_mirror;
 use crate::report::LoadReport;
 use byte_streams::Input;
-use dump_load::{Applied, change_refusal};
+use dump_load::Applied;
 use dump_text::DumpRecord;
 use fleet_disk::Disk;
 use fleet_engines::{OpenRevision, ReadRevision, RevisionNodes, Taker, read_stream};
@@ -42,6 +42,7 @@ use path_tree::Tree;
 use repo_core::Repo;
 use repo_store::{RepoStore, store_refusal};
 use std::alloc::Global;
+use whole_texts::ReadNode;
 
 // Whether it is revision 0 of a repository without any other.
 fn is_zero(repo: &Repo, revision: &ReadRevision) -> bool
@@ -50,24 +51,17 @@ fn is_zero(repo: &Repo, revision: &ReadRevision) -> bool
     repo.trees().len() == 1 && revision.number == RevNo::ZERO
 }
 
-// The set of the revision after the head with the tree that it makes. WrongNumber (16) where the number isn't its, and
-// then what makes no set or has a fault over the trees so far.
+// The set of the revision after the head with the tree that it makes. WrongNumber (16) where the number isn't its, then
+// a text that can't be made whole, and then what makes no set or has a fault over the trees so far.
 fn judge(trees: &[Tree], number: RevNo, nodes: RevisionNodes) -> Result<Applied, Refusal>
     ensures made { IfOk result (λ a. (props : PropMap)
         → Makes trees.now (record { number = number; props = props; nodes = nodes_of nodes }) a.set a.tree) }
-    ensures refused { IfErr result (λ e. (e ≡ Refusal.OutOfMemory)
-        ⊎ ((props : PropMap) → IsUnfit trees.now
-        (record { number = number; props = props; nodes = nodes_of nodes }) e)) }
+    ensures refused { IfErr result (λ e. (props : PropMap)
+        → IsUnfit trees.now (record { number = number; props = props; nodes = nodes_of nodes }) e) }
     ensures no_device { IfErr result (λ e. is_device e ≡ false) }
     ensures no_peer { IfErr result (λ e. e ≡ Refusal.PeerFailed → ⊥) }
 {
-    if number.index() != trees.len() {
-        return Err(Refusal::WrongNumber);
-    }
-    match nodes.load(trees, number) {
-        Ok(applied) => Ok(applied),
-        Err(fault) => Err(change_refusal(fault)),
-    }
+    nodes.load(trees, number)
 }
 
 // Other properties for revision 0.
@@ -184,7 +178,11 @@ impl Loader {
                 self.last.begin(number, props);
                 Ok(())
             }
-            DumpRecord::Node(node) => self.last.add_node(node),
+            DumpRecord::Node(node) => self.last.add_node(ReadNode { node, delta: None }),
+            DumpRecord::DeltaNode(node, delta) => self.last.add_node(ReadNode {
+                node,
+                delta: Some(delta),
+            }),
         }
     }
 
@@ -270,45 +268,48 @@ impl<D: Disk + Drop, T: LoadReport> Taker<RepoStore<D>, T> for Loader {
 // Loads a dump into a repository that is no mirror.
 fn load_stream<D: Disk + Drop, I: Input, T: LoadReport>(
     alloc: Global,
+    deltas: bool,
     store: &mut RepoStore<D>,
     input: &mut I,
     report: &mut T,
 ) -> Result<(), Refusal>
     ensures ok { OnOk result (IfSome (I.remaining input.old)
-        (λ bytes. Loaded (repository_of store.old) bytes (repository_of store.new) (T.contents report.old)
+        (λ bytes. Loaded deltas (repository_of store.old) bytes (repository_of store.new) (T.contents report.old)
         (T.contents report.new))) }
     ensures refused { IfErr result (λ e. IfSome (I.remaining input.old)
-        (λ bytes. Refused (repository_of store.old) bytes store.new (T.contents report.old)
+        (λ bytes. Refused deltas (repository_of store.old) bytes store.new (T.contents report.old)
         (T.contents report.new) (Rose (T.failures report.old) (T.failures report.new)) e)) }
     ensures device { IsSafe store.old → Serves store.old store.new result }
     ensures entries { IsSafe store.old → IfSome (I.remaining input.old)
-        (λ bytes. ServesRecords (filter is_no_identity (records_of (dump bytes))) store.old store.new result []) }
+        (λ bytes. ServesRecords (filter is_no_identity (records_of (dump_by deltas bytes))) store.old store.new result []) }
     ensures told { KeepsTold store.old store.new (T.told report.old) (T.told report.new) }
     ensures peer { BothCounted result (counts I.failures I.reads input.old input.new) (T.failures report.old) (T.failures report.new) }
 {
     let mut loader = Loader::new(alloc);
-    read_stream(alloc, &mut loader, store, report, input)
+    read_stream(alloc, deltas, &mut loader, store, report, input)
 }
 
 /// Loads a dump: each revision when its last record has been read, judged whole, committed, and told in a line. The
 /// identity of the dump is passed over.
 ///
 /// A record of revision 0 gives its properties while there is no other revision; each other revision is the one after
-/// the head, else WrongNumber (16). A mirror is refused (24) before anything is read. A fault of the text (1 to 10), of
-/// a revision (2, 8, 10 to 17), of the store (31, 32, 36, 70) or of a stream (49) ends the load, and what was loaded
+/// the head, else WrongNumber (16). With `deltas` texts may be given as deltas (else 9): each is made whole over the text
+/// that its file has before. A mirror is refused (24) before anything is read. A fault of the text (1 to 10), of a
+/// revision (2, 6, 8, 10 to 17, 44), of the store (31, 32, 36, 70) or of a stream (49) ends the load, and what was loaded
 /// before it stays. Whatever is answered, 31 too, a stop then leaves what keeps every revision that was told, or that
 /// with the one that was being loaded.
 pub fn run_load<D: Disk + Drop, I: Input, T: LoadReport>(
     alloc: Global,
+    deltas: bool,
     store: &mut RepoStore<D>,
     input: &mut I,
     report: &mut T,
 ) -> Result<(), Refusal>
     ensures ok { OnOk result (IfSome (I.remaining input.old)
-        (λ bytes. Loaded (repository_of store.old) bytes (repository_of store.new) (T.contents report.old)
+        (λ bytes. Loaded deltas (repository_of store.old) bytes (repository_of store.new) (T.contents report.old)
         (T.contents report.new))) }
     ensures refused { IfErr result (λ e. is_mirror (revisions_of store.old) ≡ false
-        → IfSome (I.remaining input.old) (λ bytes. Refused (repository_of store.old) bytes store.new
+        → IfSome (I.remaining input.old) (λ bytes. Refused deltas (repository_of store.old) bytes store.new
         (T.contents report.old) (T.contents report.new) (Rose (T.failures report.old) (T.failures report.new)) e)) }
     ensures mirror { is_mirror (revisions_of store.old) ≡ true
         → IfErr result (λ e. (e ≡ Refusal.ReadOnly) × (repository_of store.new ≡ repository_of store.old)
@@ -317,7 +318,7 @@ pub fn run_load<D: Disk + Drop, I: Input, T: LoadReport>(
     ensures no_mirror { OnOk result (is_mirror (revisions_of store.old) ≡ false) }
     ensures device { Serves store.old store.new result }
     ensures entries { IfSome (I.remaining input.old) (λ bytes. ServesRecords
-        (filter is_no_identity (records_of (dump bytes))) store.old store.new result []) }
+        (filter is_no_identity (records_of (dump_by deltas bytes))) store.old store.new result []) }
     ensures durable { D.honest (disk_of store.new) → ¬ HasFailed store.new → (image : Image)
         → D.may_leave (disk_of store.new) image
         → Keeps (repository_of store.new) image }
@@ -326,7 +327,7 @@ pub fn run_load<D: Disk + Drop, I: Input, T: LoadReport>(
     ensures peer { BothCounted result (counts I.failures I.reads input.old input.new) (T.failures report.old) (T.failures report.new) }
 {
     refuse_mirror(store.repo())?;
-    let done = load_stream(alloc, store, input, report);
+    let done = load_stream(alloc, deltas, store, input, report);
     let _repo = store.repo();
     done
 }

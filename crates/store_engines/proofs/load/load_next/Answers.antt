@@ -1,4 +1,4 @@
-use Rattle.std.proofs.Common.{◌≡◌, ◌∙◌, List, [], length, ap, subst, Ok, Err, refl, inl, inr}
+use Rattle.std.proofs.Common.{◌≡◌, ◌∙◌, List, [], length, ap, subst, Ok, Err, refl, inr}
 use Rattle.std.proofs.lemmas.Result.{err_from_is_err_and, IfErr-weaker}
 use Rattle.dump_load.specs.Trees.{Makes}
 use Rattle.fleet_engines.specs.Histories.{rev_read}
@@ -8,7 +8,7 @@ use Rattle.fleet_engines.specs.Grouping.{records_of_rev}
 use Rattle.repo_core.specs.declared.entry.Entry.TheVariants.{Revised}
 use Rattle.repo_store.specs.Words.{repository_of, revisions_of}
 use Rattle.byte_streams.specs.Causes.{Rose}
-use Rattle.store_engines.specs.Loads.{load_refused, load_stops, loaded_line, unfit}
+use Rattle.store_engines.specs.Loads.{load_refused, loaded_line, unfit}
 use Rattle.store_engines.proofs.Loading.{next_err, next_said, next_there, next_unsaid}
 use Rattle.store_engines.specs.Devices.{is_device}
 use Rattle.store_engines.proofs.Serving.{any_ok, next_entry, nothing, of_entry, records_then}
@@ -19,11 +19,7 @@ pub returns-in_err-applied-clause-refused : goal.returns-in_err-applied-clause-r
 returns-in_err-applied-clause-refused g c =
     let p = err_from_is_err_and c.from_residual.result c.from_residual.ensures.1 in
     let trees = c.trees.ensures.trees ∙ ap (λ v. trees_of v.revisions) c.repo.ensures.value in
-    rw (p.1, p.2)
-    (elim c.in_err-applied.ensures.refused [
-      | inl m ↦ load_stops m refl refl
-      | inr u ↦ load_refused (unfit c.requires.later (rw (← trees) (u c.args.revision.props))) refl refl
-    ])
+    rw (p.1, p.2) (load_refused (unfit c.requires.later (rw (← trees) (c.in_err-applied.ensures.refused c.args.revision.props))) refl refl)
 
 pub returns-in_err-commit_applied-clause-refused : goal.returns-in_err-commit_applied-clause-refused
 returns-in_err-commit_applied-clause-refused g c =

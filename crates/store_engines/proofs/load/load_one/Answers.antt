@@ -1,4 +1,5 @@
 use Rattle.std.proofs.Common.{◌∙◌, ap, refl, sym}
+use Rattle.std.proofs.lemmas.Result.{IfErr-weaker}
 use Rattle.fleet_engines.specs.Histories.{rev_read}
 use Rattle.fleet_engines.specs.Revisions.{is_zero}
 use Rattle.repo_core.specs.Repository.{trees_of}
@@ -34,3 +35,6 @@ returns-then-is_zero-clause-told g c safe works h = moved_on c.args.store.now c.
 
 pub returns-then-is_zero-clause-peer : goal.returns-then-is_zero-clause-peer
 returns-then-is_zero-clause-peer g c = none_failed c.put_zero.result (g.T.LoadReport.failures c.args.report.now) c.put_zero.ensures.no_peer
+
+pub returns-clause-refused : goal.returns-clause-refused
+returns-clause-refused g c = IfErr-weaker c.load_next.result _ _ (λ e k bare. k) c.load_next.ensures.refused

@@ -1,6 +1,6 @@
 use Rattle.std.proofs.Common.{[], Err, ap, arith}
 use Rattle.std.specs.List.{filter}
-use Rattle.dump_text.specs.Streams.{dump, records_of}
+use Rattle.dump_text.specs.Streams.{dump_by, records_of}
 use Rattle.fleet_engines.specs.Grouping.{is_no_identity}
 use Rattle.store_engines.specs.Loads.{ServesRecords}
 use Rattle.fleet_engines.proofs.Streaming.{some_all}
@@ -32,8 +32,8 @@ returns-in_err-refuse_mirror-clause-entries g c =
     let e = c.in_err-refuse_mirror.field-0.0 in
     let other = ap is_device c.in_err-refuse_mirror.ensures.refused.0 in
     rw (p.1, p.2)
-    (some_all (g.I.Input.remaining c.args.input.now) (λ bytes. ServesRecords (filter is_no_identity (records_of (dump bytes))) first first (Err e) [])
-    (λ bytes. nothing (filter is_no_identity (records_of (dump bytes))) [] first (Err e) other tt (λ h w image left. c.repo.ensures.keeps h w image (g.met.D.Disk.only_now (disk_of first) image h left))))
+    (some_all (g.I.Input.remaining c.args.input.now) (λ bytes. ServesRecords (filter is_no_identity (records_of (dump_by c.args.deltas bytes))) first first (Err e) [])
+    (λ bytes. nothing (filter is_no_identity (records_of (dump_by c.args.deltas bytes))) [] first (Err e) other tt (λ h w image left. c.repo.ensures.keeps h w image (g.met.D.Disk.only_now (disk_of first) image h left))))
 
 pub returns-clause-entries : goal.returns-clause-entries
 returns-clause-entries g c = c.load_stream-done.ensures.entries (λ h w image left. c.repo.ensures.keeps h w image (g.met.D.Disk.only_now (disk_of c.args.store.now) image h left))
