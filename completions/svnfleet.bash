@@ -11,6 +11,7 @@ _svnfleet() {
     --uuid | -r | --message | --moment | --token | --port | --connections | --timeout | --root-url | --workers) return ;;
     esac
     case ${COMP_WORDS[1]} in
+    list | canon | load) options=--deltas ;;
     create) options=--uuid ;;
     dump) options=-r ;;
     mkdir) options='--message --moment' ;;
@@ -19,7 +20,7 @@ _svnfleet() {
     copy-revprops) options='-r --token --timeout' ;;
     serve) options='--port --connections --timeout --root-url --browse' ;;
     fleet) options=--workers ;;
-    list | canon | load | head | upgrade | info) ;;
+    head | upgrade | info) ;;
     *) return ;;
     esac
     if [ "${word:0:1}" = - ]; then

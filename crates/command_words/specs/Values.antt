@@ -106,13 +106,13 @@ IsTokenOf (Some value) token = (token ≡ value) × (is_token value ≡ true)
 abbrev pub HasNumber : List Row → List ℕ → ℕ → ℕ → Type 0
 HasNumber rows name most n = (value : List ℕ) × HasValue rows name value × SpellsUpTo most value n
 
--- a command's folder, identity, range, path, message and moment are those of the values under their names
+-- a command's folder, identity, range, path, message and moment are those of the values under their names, and so are its flags
 abbrev pub HasValuesOf : List Row → Command → Type 0
-HasValuesOf rows ListIt = Unit {0}
-HasValuesOf rows Canon = Unit {0}
+HasValuesOf rows (ListIt deltas) = deltas ≡ is_given rows (codes "deltas")
+HasValuesOf rows (Canon deltas) = deltas ≡ is_given rows (codes "deltas")
 HasValuesOf rows (Create folder identity) =
     HasValue rows (codes "DIR") (string_bytes folder) × ((value : List ℕ) × HasValue rows (codes "uuid") value × (identity_read value ≡ Some identity))
-HasValuesOf rows (Load folder) = HasValue rows (codes "DIR") (string_bytes folder)
+HasValuesOf rows (Load folder deltas) = HasValue rows (codes "DIR") (string_bytes folder) × (deltas ≡ is_given rows (codes "deltas"))
 HasValuesOf rows (Dump folder range) = HasValue rows (codes "DIR") (string_bytes folder) × IsRangeOf (first_of (codes "revisions") rows) range
 HasValuesOf rows (Head folder) = HasValue rows (codes "DIR") (string_bytes folder)
 HasValuesOf rows (MakeDir folder path message moment) =

@@ -48,17 +48,21 @@ app_with name rules = fold with_rule (new_app name) rules
 abbrev pub folder_rule : Rule
 folder_rule = word_rule (codes "DIR")
 
+-- the option by which texts are taken as differences
+abbrev pub deltas_rule : Rule
+deltas_rule = flag_rule (codes "deltas")
+
 abbrev pub list_app : App
-list_app = app_with (codes "list") []
+list_app = app_with (codes "list") (deltas_rule ∷ [])
 
 abbrev pub canon_app : App
-canon_app = app_with (codes "canon") []
+canon_app = app_with (codes "canon") (deltas_rule ∷ [])
 
 abbrev pub create_app : App
 create_app = app_with (codes "create") (folder_rule ∷ named_rule (codes "uuid") ∷ [])
 
 abbrev pub load_app : App
-load_app = app_with (codes "load") (folder_rule ∷ [])
+load_app = app_with (codes "load") (folder_rule ∷ deltas_rule ∷ [])
 
 abbrev pub dump_app : App
 dump_app = app_with (codes "dump") (folder_rule ∷ range_rule false (codes "revisions") ∷ [])
@@ -80,7 +84,7 @@ abbrev pub initialize_app : App
 initialize_app = two_folders_app (codes "initialize") (optional_rule (codes "timeout") ∷ [])
 
 abbrev pub synchronize_app : App
-synchronize_app = two_folders_app (codes "synchronize") (flag_rule (codes "steal-lock") ∷ flag_rule (codes "deltas") ∷ optional_rule (codes "token") ∷ optional_rule (codes "timeout") ∷ [])
+synchronize_app = two_folders_app (codes "synchronize") (flag_rule (codes "steal-lock") ∷ deltas_rule ∷ optional_rule (codes "token") ∷ optional_rule (codes "timeout") ∷ [])
 
 abbrev pub copy_revprops_app : App
 copy_revprops_app = two_folders_app (codes "copy-revprops") (range_rule true (codes "revisions") ∷ optional_rule (codes "token") ∷ optional_rule (codes "timeout") ∷ [])
@@ -138,10 +142,10 @@ with_commands_app program commands = fold (λ program command. with_subcommand p
 
 -- the word that names a command
 abbrev pub word_of : Command → List ℕ
-word_of ListIt = codes "list"
-word_of Canon = codes "canon"
+word_of (ListIt deltas) = codes "list"
+word_of (Canon deltas) = codes "canon"
 word_of (Create folder identity) = codes "create"
-word_of (Load folder) = codes "load"
+word_of (Load folder deltas) = codes "load"
 word_of (Dump folder range) = codes "dump"
 word_of (Head folder) = codes "head"
 word_of (MakeDir folder path message moment) = codes "mkdir"

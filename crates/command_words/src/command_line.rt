@@ -40,18 +40,23 @@ use uuid::Uuid;
 /// What the program is told to do.
 #[derive(Drop)]
 pub enum Command {
-    /// Print the newest tree of a dump.
-    List,
-    /// Write a dump in its canonical spelling.
-    Canon,
+    /// Print the newest tree of a dump. Texts that it gives as deltas are taken where that is asked for.
+    List {
+        deltas: bool,
+    },
+    /// Write a dump in its canonical spelling. Texts that it gives as deltas are taken where that is asked for.
+    Canon {
+        deltas: bool,
+    },
     /// Begin a repository in a folder.
     Create {
         folder: String,
         identity: Uuid,
     },
-    /// Load a dump into a folder's repository.
+    /// Load a dump into a folder's repository. Texts that it gives as deltas are taken where that is asked for.
     Load {
         folder: String,
+        deltas: bool,
     },
     /// Dump a folder's repository, or a range of its revisions.
     Dump {
@@ -284,8 +289,8 @@ fn named(alloc: Global, matches: &ArgMatches<'_>) -> Result<Command, Usage>
     ensures usage { IfErr result (IsRefusedAt (subcommand_rows_of matches.now)) }
 {
     match entered(matches) {
-        Some(("list", _)) => Ok(Command::List),
-        Some(("canon", _)) => Ok(Command::Canon),
+        Some(("list", given)) => Ok(list_named(given)),
+        Some(("canon", given)) => Ok(canon_named(given)),
         Some(("create", given)) => create_named(alloc, given),
         Some(("load", given)) => load_named(alloc, given),
         Some(("dump", given)) => dump_named(alloc, given),
@@ -335,6 +340,20 @@ pub(crate) fn wrong(alloc: Global, help: &str, value: &str, wanted: &str) -> Usa
     }
 }
 
+fn list_named(given: &ArgMatches<'_>) -> Command
+    ensures { IsCommandOf (Some (codes "list", rows_of (found_of given.now))) result }
+{
+    let deltas = is_given(given, "deltas");
+    Command::List { deltas }
+}
+
+fn canon_named(given: &ArgMatches<'_>) -> Command
+    ensures { IsCommandOf (Some (codes "canon", rows_of (found_of given.now))) result }
+{
+    let deltas = is_given(given, "deltas");
+    Command::Canon { deltas }
+}
+
 fn create_named(alloc: Global, given: &ArgMatches<'_>) -> Result<Command, Usage>
     ensures named { IfOk result (IsCommandOf (Some (codes "create", rows_of (found_of given.now)))) }
     ensures usage { IfErr result (IsRefusedAt (Some (codes "create", rows_of (found_of given.now)))) }
@@ -360,6 +379,7 @@ fn load_named(alloc: Global, given: &ArgMatches<'_>) -> Result<Command, Usage>
 {
     Ok(Command::Load {
         folder: text(alloc, given, "DIR")?,
+        deltas: is_given(given, "deltas"),
     })
 }
 

@@ -10,6 +10,13 @@ const DIR: Word<'static> = Word {
     help: "The folder of the repository",
 };
 
+// Texts of a dump on standard input that are given as deltas.
+const DELTAS: Word<'static> = Word {
+    name: "deltas",
+    kind: WordKind::Flag,
+    help: "Take texts that the dump gives as deltas, as `svnrdump dump` writes them",
+};
+
 const MIRROR: Word<'static> = Word {
     name: "MIRROR",
     kind: WordKind::Place,
@@ -40,13 +47,13 @@ pub const ARCHIVE: &[Subcommand<'static>] = &[
         name: "list",
         about: "Dump: reads one on standard input and prints its newest tree",
         after_help: texts::DUMPS,
-        words: &[],
+        words: &[DELTAS],
     },
     Subcommand {
         name: "canon",
         about: "Dump: reads one on standard input and writes it in its canonical spelling",
         after_help: texts::DUMPS,
-        words: &[],
+        words: &[DELTAS],
     },
     Subcommand {
         name: "create",
@@ -69,7 +76,7 @@ pub const ARCHIVE: &[Subcommand<'static>] = &[
         name: "load",
         about: "Archive: loads a dump on standard input into a folder's repository",
         after_help: texts::LOAD,
-        words: &[DIR],
+        words: &[DIR, DELTAS],
     },
     Subcommand {
         name: "dump",
