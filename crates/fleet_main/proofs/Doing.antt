@@ -5,7 +5,7 @@ use Rattle.std.specs.List.{filter}
 use Rattle.std.specs.Io.KnownBytes.{Appends, Keeps as HandedOn}
 use Rattle.std.proofs.lemmas.Bool.{true≢false}
 use Rattle.jiff_core.specs.declared.civil.datetime.DateTime.{DateTime}
-use Rattle.dump_text.specs.Streams.{dump, records_of}
+use Rattle.dump_text.specs.Streams.{dump_by, records_of}
 use Rattle.fleet_disk.specs.Image.{Image, no_bytes}
 use Rattle.fleet_disk.specs.declared.disk.Disk.{Ghosts}
 use Rattle.node_base.specs.Path.{Path}
@@ -73,22 +73,22 @@ module _ {F D : Type 0} (G : Ghosts D) (H : FolderGhosts F D) (folders then late
   }
 
   -- a load
-  pub load_done : (r : Result (Unit {0}) Refusal) (bytes before now : Option (List ℕ)) (old new : RepoStore D G) → IsOpenedIn G H folders then folder old
-      → OnOk r (IfSome bytes (λ read. Loaded (repository_of old) read (repository_of new) before now)) → OnOk r (is_mirror (revisions_of old) ≡ false) → Serves old new r
-      → IfSome bytes (λ read. ServesRecords (filter is_no_identity (records_of (dump read))) old new r []) → KeptThen new → TakesBack G H then later folder (disk_of new)
-      → OnOk r (OfStanding G H folders later folder (IsLoadedFrom (H.honest folders) bytes before now))
-  load_done (Ok t) bytes before now old new o l m s records k back =
-      standing (IsLoadedFrom (H.honest folders) bytes before now) old new o back s.honest.0 (m, l, (s, records), kept_ok (H.honest folders) o.0 old new o.2 s k)
-  load_done (Err e) bytes before now old new o l m s records k back = tt
+  pub load_done : (deltas : Bool) (r : Result (Unit {0}) Refusal) (bytes before now : Option (List ℕ)) (old new : RepoStore D G) → IsOpenedIn G H folders then folder old
+      → OnOk r (IfSome bytes (λ read. Loaded deltas (repository_of old) read (repository_of new) before now)) → OnOk r (is_mirror (revisions_of old) ≡ false) → Serves old new r
+      → IfSome bytes (λ read. ServesRecords (filter is_no_identity (records_of (dump_by deltas read))) old new r []) → KeptThen new → TakesBack G H then later folder (disk_of new)
+      → OnOk r (OfStanding G H folders later folder (IsLoadedFrom deltas (H.honest folders) bytes before now))
+  load_done deltas (Ok t) bytes before now old new o l m s records k back =
+      standing (IsLoadedFrom deltas (H.honest folders) bytes before now) old new o back s.honest.0 (m, l, (s, records), kept_ok (H.honest folders) o.0 old new o.2 s k)
+  load_done deltas (Err e) bytes before now old new o l m s records k back = tt
 
-  pub load_refused : (r : Result (Unit {0}) Refusal) (bytes left rest before now : Option (List ℕ)) (fails : Type 0) (old new : RepoStore D G) → IsOpenedIn G H folders then folder old
-      → IfErr r (λ e. is_mirror (revisions_of old) ≡ false → IfSome bytes (λ read. LoadRefused (repository_of old) read new before now fails e))
+  pub load_refused : (deltas : Bool) (r : Result (Unit {0}) Refusal) (bytes left rest before now : Option (List ℕ)) (fails : Type 0) (old new : RepoStore D G) → IsOpenedIn G H folders then folder old
+      → IfErr r (λ e. is_mirror (revisions_of old) ≡ false → IfSome bytes (λ read. LoadRefused deltas (repository_of old) read new before now fails e))
       → (is_mirror (revisions_of old) ≡ true → IfErr r (λ e. (e ≡ refusal.ReadOnly) × (repository_of new ≡ repository_of old) × (left ≡ rest) × (now ≡ before))) → Serves old new r
-      → IfSome bytes (λ read. ServesRecords (filter is_no_identity (records_of (dump read))) old new r []) → KeptThen new → IsStored new → TakesBack G H then later folder (disk_of new)
-      → IfErr r (λ e. UnopenedOr G H folders later folder before now e (NotLoadedFrom (H.honest folders) bytes before now fails e))
-  load_refused (Ok t) bytes left rest before now fails old new o h m s records k d back = tt
-  load_refused (Err e) bytes left rest before now fails old new o h m s records k d back =
-      inr (standing (NotLoadedFrom (H.honest folders) bytes before now fails e) old new o back s.honest.0
+      → IfSome bytes (λ read. ServesRecords (filter is_no_identity (records_of (dump_by deltas read))) old new r []) → KeptThen new → IsStored new → TakesBack G H then later folder (disk_of new)
+      → IfErr r (λ e. UnopenedOr G H folders later folder before now e (NotLoadedFrom deltas (H.honest folders) bytes before now fails e))
+  load_refused deltas (Ok t) bytes left rest before now fails old new o h m s records k d back = tt
+  load_refused deltas (Err e) bytes left rest before now fails old new o h m s records k d back =
+      inr (standing (NotLoadedFrom deltas (H.honest folders) bytes before now fails e) old new o back s.honest.0
       (h, (λ is. let n = m is in (n.0, n.1, n.3)), (s, records), kept_err e (H.honest folders) o.0 old new o.2 s k, kept_or (Err e) (H.honest folders) o.0 old new o.2 s d))
 
   -- a commit of a directory

@@ -4,7 +4,7 @@ use Rattle.std.specs.Fmt.{decimal}
 use Rattle.std.specs.List.{filter, flat_map}
 use Rattle.std.specs.Io.KnownBytes.{Appends, Keeps as HandedOn}
 use Rattle.jiff_core.specs.declared.civil.datetime.DateTime.{DateTime}
-use Rattle.dump_text.specs.Streams.{dump, records_of}
+use Rattle.dump_text.specs.Streams.{dump_by, records_of}
 use Rattle.fleet_disk.specs.Image.{Image, no_bytes}
 use Rattle.fleet_disk.specs.Rules.{LeavesOnly, Only, Rose}
 use Rattle.fleet_disk.specs.declared.disk.Disk.{Ghosts}
@@ -98,15 +98,15 @@ pub record IsBegun {F D : Type 0} (G : Ghosts D) (H : FolderGhosts F D) (folders
   pub begun : IsBegunOn G (H.honest folders) identity given store
   pub back : AreBack G H folders later (only_of folder given (disk_of store))
 
--- what a load of these bytes did to a store and its device
-abbrev pub ServesLoad : {D : Type 0} {G : Ghosts D} → Option (List ℕ) → RepoStore D G → RepoStore D G → Result (Unit {0}) Refusal → Type 0
-ServesLoad bytes old new result = Serves old new result × IfSome bytes (λ read. ServesRecords (filter is_no_identity (records_of (dump read))) old new result [])
+-- what a load of these bytes, in which texts may be given as deltas or may not, did to a store and its device
+abbrev pub ServesLoad : {D : Type 0} {G : Ghosts D} → Bool → Option (List ℕ) → RepoStore D G → RepoStore D G → Result (Unit {0}) Refusal → Type 0
+ServesLoad deltas bytes old new result = Serves old new result × IfSome bytes (λ read. ServesRecords (filter is_no_identity (records_of (dump_by deltas read))) old new result [])
 
 -- the store, whose repository is no mirror, is loaded with the whole dump that was read, and a stop leaves that
-abbrev pub IsLoadedFrom : {D : Type 0} {G : Ghosts D} → Type 0 → Option (List ℕ) → Option (List ℕ) → Option (List ℕ) → RepoStore D G → RepoStore D G → Type 0
-IsLoadedFrom honest bytes before now old new =
-    (is_mirror (revisions_of old) ≡ false) × IfSome bytes (λ read. Loaded (repository_of old) read (repository_of new) before now)
-    × ServesLoad bytes old new (Ok tt) × IsKept honest new
+abbrev pub IsLoadedFrom : {D : Type 0} {G : Ghosts D} → Bool → Type 0 → Option (List ℕ) → Option (List ℕ) → Option (List ℕ) → RepoStore D G → RepoStore D G → Type 0
+IsLoadedFrom deltas honest bytes before now old new =
+    (is_mirror (revisions_of old) ≡ false) × IfSome bytes (λ read. Loaded deltas (repository_of old) read (repository_of new) before now)
+    × ServesLoad deltas bytes old new (Ok tt) × IsKept honest new
 
 -- what a commit of a directory did to a store and its device
 abbrev pub ServesDirectory : {D : Type 0} {G : Ghosts D} → List ℕ → List ℕ → DateTime → RepoStore D G → RepoStore D G → Result (Unit {0}) Refusal → Type 0
@@ -125,11 +125,11 @@ IsDumped honest range before now old new =
     × Appends before now (dump_of (repository_of old) (first_wanted range) (count_wanted (repository_of old) range)) × IsKept honest old
 
 -- a mirror isn't loaded; and of another one what was read is refused; unless the device failed, a stop leaves what is loaded, and where it did, that or one entry more
-abbrev pub NotLoadedFrom : {D : Type 0} {G : Ghosts D} → Type 0 → Option (List ℕ) → Option (List ℕ) → Option (List ℕ) → Type 0 → Refusal → RepoStore D G → RepoStore D G → Type 0
-NotLoadedFrom honest bytes before now fails e old new =
-    (is_mirror (revisions_of old) ≡ false → IfSome bytes (λ read. LoadRefused (repository_of old) read new before now fails e))
+abbrev pub NotLoadedFrom : {D : Type 0} {G : Ghosts D} → Bool → Type 0 → Option (List ℕ) → Option (List ℕ) → Option (List ℕ) → Type 0 → Refusal → RepoStore D G → RepoStore D G → Type 0
+NotLoadedFrom deltas honest bytes before now fails e old new =
+    (is_mirror (revisions_of old) ≡ false → IfSome bytes (λ read. LoadRefused deltas (repository_of old) read new before now fails e))
     × (is_mirror (revisions_of old) ≡ true → (e ≡ refusal.ReadOnly) × (repository_of new ≡ repository_of old) × (now ≡ before))
-    × ServesLoad bytes old new (Err e) × (e ≢ refusal.DeviceFailed → IsKept honest new) × IsKeptOr honest new
+    × ServesLoad deltas bytes old new (Err e) × (e ≢ refusal.DeviceFailed → IsKept honest new) × IsKeptOr honest new
 
 -- the directory isn't committed to it; unless the device failed, a stop leaves what the store has, and where it did, that or one entry more
 abbrev pub NotCommittedTo : {D : Type 0} {G : Ghosts D} → Type 0 → List ℕ → List ℕ → DateTime → Option (List ℕ) → Option (List ℕ) → Type 0 → Refusal → RepoStore D G → RepoStore D G → Type 0
@@ -251,10 +251,10 @@ pub record OfUpgrade {F D : Type 0} (G : Ghosts D) (H : FolderGhosts F D) (folde
 
 -- a command is done over folders, with these bytes to read: of an output that held `before`, what it holds now
 abbrev pub IsDone : {F D : Type 0} → Ghosts D → FolderGhosts F D → F → F → Command → Option (List ℕ) → Option (List ℕ) → Option (List ℕ) → Type 0
-IsDone G H folders later ListIt bytes before now = IfSome bytes (λ read. Accepted product.List read before now) × AreBack G H folders later []
-IsDone G H folders later Canon bytes before now = IfSome bytes (λ read. Accepted product.Canon read before now) × AreBack G H folders later []
+IsDone G H folders later (ListIt deltas) bytes before now = IfSome bytes (λ read. Accepted deltas product.List read before now) × AreBack G H folders later []
+IsDone G H folders later (Canon deltas) bytes before now = IfSome bytes (λ read. Accepted deltas product.Canon read before now) × AreBack G H folders later []
 IsDone G H folders later (Create folder identity) bytes before now = IsBegun G H folders later (string_bytes folder) identity × (now ≡ before)
-IsDone G H folders later (Load folder) bytes before now = OfStanding G H folders later (string_bytes folder) (IsLoadedFrom (H.honest folders) bytes before now)
+IsDone G H folders later (Load folder deltas) bytes before now = OfStanding G H folders later (string_bytes folder) (IsLoadedFrom deltas (H.honest folders) bytes before now)
 IsDone G H folders later (Dump folder range) bytes before now = OfStanding G H folders later (string_bytes folder) (IsDumped (H.honest folders) range before now)
 IsDone G H folders later (MakeDir folder path message moment) bytes before now =
     OfStanding G H folders later (string_bytes folder) (IsCommittedTo (H.honest folders) (string_bytes path) (string_bytes message) moment before now)
@@ -298,11 +298,11 @@ NotKept source before now e = ((e ≡ refusal.OutOfMemory) ⊎ ((e ≡ refusal.T
 
 -- a command isn't done: why, what is written then, and what is left of the folders; the output had failed so often at the start and has by now
 abbrev pub IsNotDone : {F D : Type 0} → Ghosts D → FolderGhosts F D → F → F → Command → Option (List ℕ) → Option (List ℕ) → ℕ → Option (List ℕ) → ℕ → Refusal → Type 0
-IsNotDone G H folders later ListIt bytes before start now count e = (Rose start count ⊎ IfSome bytes (λ read. Refused product.List read before now e)) × AreBack G H folders later []
-IsNotDone G H folders later Canon bytes before start now count e = (Rose start count ⊎ IfSome bytes (λ read. Refused product.Canon read before now e)) × AreBack G H folders later []
+IsNotDone G H folders later (ListIt deltas) bytes before start now count e = (Rose start count ⊎ IfSome bytes (λ read. Refused deltas product.List read before now e)) × AreBack G H folders later []
+IsNotDone G H folders later (Canon deltas) bytes before start now count e = (Rose start count ⊎ IfSome bytes (λ read. Refused deltas product.Canon read before now e)) × AreBack G H folders later []
 IsNotDone G H folders later (Create folder identity) bytes before start now count e = NotBegunIn G H folders later (string_bytes folder) identity e × (now ≡ before)
-IsNotDone G H folders later (Load folder) bytes before start now count e =
-    UnopenedOr G H folders later (string_bytes folder) before now e (NotLoadedFrom (H.honest folders) bytes before now (Rose start count) e)
+IsNotDone G H folders later (Load folder deltas) bytes before start now count e =
+    UnopenedOr G H folders later (string_bytes folder) before now e (NotLoadedFrom deltas (H.honest folders) bytes before now (Rose start count) e)
 IsNotDone G H folders later (Dump folder range) bytes before start now count e =
     UnopenedOr G H folders later (string_bytes folder) before now e (NotDumped (H.honest folders) range before now (Rose start count) e)
 IsNotDone G H folders later (MakeDir folder path message moment) bytes before start now count e =

@@ -58,24 +58,25 @@ fn create<F: Folders>(
 
 fn load<F: Folders, I: Input, O: Output + Drop>(
     alloc: Global,
+    deltas: bool,
     folders: &mut F,
     folder: &str,
     input: &mut I,
     output: &mut O,
 ) -> Result<(), Refusal>
     ensures done { OnOk result (OfStanding F.Place.Disk F.Folders folders.old folders.new folder.now
-        (IsLoadedFrom (F.honest folders.old) (I.remaining input.old) (O.contents output.old)
+        (IsLoadedFrom deltas (F.honest folders.old) (I.remaining input.old) (O.contents output.old)
         (O.contents output.new))) }
     ensures refused { IfErr result (λ e. UnopenedOr F.Place.Disk F.Folders folders.old folders.new folder.now
         (O.contents output.old) (O.contents output.new) e
-        (NotLoadedFrom (F.honest folders.old) (I.remaining input.old) (O.contents output.old)
+        (NotLoadedFrom deltas (F.honest folders.old) (I.remaining input.old) (O.contents output.old)
         (O.contents output.new) (Rose (O.failures output.old) (O.failures output.new)) e)) }
     ensures peer { BothCounted result (counts I.failures I.reads input.old input.new) (O.failures output.old) (O.failures output.new) }
 {
     match opened(alloc, folders, folder) {
         Ok(store) => {
             let mut loaded = store;
-            let done = run_load(alloc, &mut loaded, input, output);
+            let done = run_load(alloc, deltas, &mut loaded, input, output);
             closed(folders, folder, loaded);
             done
         }
@@ -350,20 +351,20 @@ fn run_one<F: Folders, I: Input, O: Output + Drop>(
 {
     let mut output = output;
     match command {
-        Command::List => {
-            let done = run_list(alloc, input, &mut output);
+        Command::List { deltas } => {
+            let done = run_list(alloc, deltas, input, &mut output);
             (output, done)
         }
-        Command::Canon => {
-            let done = run_canon(alloc, input, &mut output);
+        Command::Canon { deltas } => {
+            let done = run_canon(alloc, deltas, input, &mut output);
             (output, done)
         }
         Command::Create { folder, identity } => {
             let done = create(alloc, folders, folder.as_str(), identity);
             (output, done)
         }
-        Command::Load { folder } => {
-            let done = load(alloc, folders, folder.as_str(), input, &mut output);
+        Command::Load { folder, deltas } => {
+            let done = load(alloc, deltas, folders, folder.as_str(), input, &mut output);
             (output, done)
         }
         Command::Dump { folder, range } => {

@@ -44,7 +44,7 @@ fn loaded(rt: &impl Abort, alloc: Global, store: &mut RepoStore<MemDisk>, parts:
     };
     let dump = joined(rt, alloc, parts);
     let mut input = CountedReader::new(dump.as_slice());
-    if run_load(alloc, store, &mut input, &mut noted).is_err() {
+    if run_load(alloc, false, store, &mut input, &mut noted).is_err() {
         noted.agreed = false;
     }
     noted

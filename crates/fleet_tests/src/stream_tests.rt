@@ -24,7 +24,7 @@ fn tells<H: HeldFiles, I: Input>(
     let (status, output) = run(
         alloc,
         &mut folders,
-        Command::Canon,
+        Command::Canon { deltas: false },
         input,
         MemOutput::new(alloc, passing),
         &mut errors,
@@ -60,7 +60,7 @@ fn ends_without_its_line<H: HeldFiles, I: Input>(alloc: Global, files: &H, input
     let (status, output) = run(
         alloc,
         &mut folders,
-        Command::Canon,
+        Command::Canon { deltas: false },
         input,
         MemOutput::new(alloc, WRITES),
         &mut errors,
@@ -78,14 +78,14 @@ fn a_line_that_is_lost(rt: HostRuntime) {
 // Whether `list` writes these bytes.
 fn lists(alloc: Global, bytes: &[u8], wanted: &[u8]) -> bool {
     let mut listed = MemOutput::new(alloc, WRITES);
-    let answer = run_list(alloc, &mut CountedReader::new(bytes), &mut listed);
+    let answer = run_list(alloc, false, &mut CountedReader::new(bytes), &mut listed);
     answer.is_ok() && listed.bytes() == wanted
 }
 
 // Whether `canon` writes bytes as they are.
 fn copies(alloc: Global, bytes: &[u8]) -> bool {
     let mut copied = MemOutput::new(alloc, WRITES);
-    let answer = run_canon(alloc, &mut CountedReader::new(bytes), &mut copied);
+    let answer = run_canon(alloc, false, &mut CountedReader::new(bytes), &mut copied);
     answer.is_ok() && copied.bytes() == bytes
 }
 

@@ -37,6 +37,25 @@ fn words_dump_a_range(rt: HostRuntime) {
     assert!(rt; range.is_some() && dumps(&rt, rt.alloc(), &words, range));
 }
 
+// Whether words read a dump and take its deltas, if they read one.
+fn takes_deltas(rt: &impl Abort, alloc: Global, parts: &[&str]) -> Option<bool> {
+    match planned(rt, alloc, parts) {
+        Ok(Planned::Run(Command::List { deltas } | Command::Canon { deltas })) => Some(deltas),
+        Ok(Planned::Run(Command::Load { deltas, .. })) => Some(deltas),
+        _ => None,
+    }
+}
+
+#[test]
+fn words_take_deltas(rt: HostRuntime) {
+    let alloc = rt.alloc();
+    assert!(rt; takes_deltas(&rt, alloc, &["list", "--deltas"]) == Some(true));
+    assert!(rt; takes_deltas(&rt, alloc, &["canon", "--deltas"]) == Some(true));
+    assert!(rt; takes_deltas(&rt, alloc, &["load", "repo", "--deltas"]) == Some(true));
+    assert!(rt; takes_deltas(&rt, alloc, &["load", "repo"]) == Some(false));
+    assert!(rt; takes_deltas(&rt, alloc, &["dump", "repo", "--deltas"]).is_none());
+}
+
 // Whether names are these, one by one.
 fn are_named(names: &[String], wanted: &[&str]) -> bool {
     if names.len() != wanted.len() {

@@ -43,12 +43,12 @@ returns-in-Create-clause-refused g c =
 pub returns-in-Load-clause-done : goal.returns-in-Load-clause-done
 returns-in-Load-clause-done g c =
     subst (λ k. OnOk c.load-done.result (IsDone g.F.Place.Disk g.F.Folders c.args.folders.now c.load-done.new.folders k (g.I.Input.remaining c.args.input.now) (g.O.Output.contents c.args.output) (g.O.Output.contents c.load-done.new.output))) (sym c.in-Load.is)
-    (done_at c.load-done.result (λ t. OfStanding g.F.Place.Disk g.F.Folders c.args.folders.now c.load-done.new.folders t (IsLoadedFrom (g.F.Folders.honest c.args.folders.now) (g.I.Input.remaining c.args.input.now) (g.O.Output.contents c.args.output) (g.O.Output.contents c.load-done.new.output))) c.as_str-in-Load.result.now (string_bytes c.in-Load.folder) c.as_str-in-Load.ensures.value c.load-done.ensures.done)
+    (done_at c.load-done.result (λ t. OfStanding g.F.Place.Disk g.F.Folders c.args.folders.now c.load-done.new.folders t (IsLoadedFrom c.in-Load.deltas (g.F.Folders.honest c.args.folders.now) (g.I.Input.remaining c.args.input.now) (g.O.Output.contents c.args.output) (g.O.Output.contents c.load-done.new.output))) c.as_str-in-Load.result.now (string_bytes c.in-Load.folder) c.as_str-in-Load.ensures.value c.load-done.ensures.done)
 
 pub returns-in-Load-clause-refused : goal.returns-in-Load-clause-refused
 returns-in-Load-clause-refused g c =
     subst (λ k. IfErr c.load-done.result (IsNotDone g.F.Place.Disk g.F.Folders c.args.folders.now c.load-done.new.folders k (g.I.Input.remaining c.args.input.now) (g.O.Output.contents c.args.output) (g.O.Output.failures c.args.output) (g.O.Output.contents c.load-done.new.output) (g.O.Output.failures c.load-done.new.output))) (sym c.in-Load.is)
-    (refused_at c.load-done.result (λ t e. UnopenedOr g.F.Place.Disk g.F.Folders c.args.folders.now c.load-done.new.folders t (g.O.Output.contents c.args.output) (g.O.Output.contents c.load-done.new.output) e (NotLoadedFrom (g.F.Folders.honest c.args.folders.now) (g.I.Input.remaining c.args.input.now) (g.O.Output.contents c.args.output) (g.O.Output.contents c.load-done.new.output) (Rose (g.O.Output.failures c.args.output) (g.O.Output.failures c.load-done.new.output)) e)) c.as_str-in-Load.result.now (string_bytes c.in-Load.folder) c.as_str-in-Load.ensures.value c.load-done.ensures.refused)
+    (refused_at c.load-done.result (λ t e. UnopenedOr g.F.Place.Disk g.F.Folders c.args.folders.now c.load-done.new.folders t (g.O.Output.contents c.args.output) (g.O.Output.contents c.load-done.new.output) e (NotLoadedFrom c.in-Load.deltas (g.F.Folders.honest c.args.folders.now) (g.I.Input.remaining c.args.input.now) (g.O.Output.contents c.args.output) (g.O.Output.contents c.load-done.new.output) (Rose (g.O.Output.failures c.args.output) (g.O.Output.failures c.load-done.new.output)) e)) c.as_str-in-Load.result.now (string_bytes c.in-Load.folder) c.as_str-in-Load.ensures.value c.load-done.ensures.refused)
 
 pub returns-in-Dump-clause-done : goal.returns-in-Dump-clause-done
 returns-in-Dump-clause-done g c =
