@@ -2,19 +2,24 @@
 
 It is short on purpose, and shares nothing with the program: the whole input is at hand, a tree is a dictionary from paths
 (tuples of names) to nodes, and each revision's tree is a copy of the one before. Headers and blocks that were read well
-are kept, since most inputs are another one with little changed.
+are kept, since most inputs are another one with little changed. Where texts may be given as deltas, that is said of the
+dump.
 """
 import functools
 import hashlib
 import re
 
+import deltas
+
 VERSION = b'SVN-fs-dump-format-version: 2'
 LATER = b'SVN-fs-dump-format-version: 3'
-LINE, BLOCK, TEXT = 4096, 33554432, 1048576
+LINE, BLOCK, TEXT, DELTA = 4096, 33554432, 1048576, 2097152
 NAME, COUNT, DIGITS, EMPTY = (re.compile(it) for it in (rb'[^\x00-\x1f\x7f]+', rb'([0-9]+)\n', rb'[0-9]*', rb'\n*'))
 NODE_ONLY = {b'Node-path', b'Node-kind', b'Node-action', b'Node-copyfrom-rev', b'Node-copyfrom-path', b'Text-content-md5',
              b'Text-content-length'}
-WITH_IDENTITY = {b'UUID', b'Text-delta', b'Prop-delta'}
+WITH_IDENTITY = {b'UUID', b'Text-delta', b'Text-delta-base-md5', b'Prop-delta'}
+# How many records of a revision have their deltas made whole; more make no set.
+RECORDS = 8192
 CONTENT = {b'Prop-content-length', b'Text-content-length'}
 
 
@@ -86,6 +91,8 @@ HEADERS = {
     b'Node-copyfrom-path': path_of, b'Text-content-md5': like(rb'[0-9a-fA-F]{32}'), b'Text-content-length': length,
     b'Prop-content-length': length, b'Content-length': length, b'Text-delta': text_delta, b'Prop-delta': bytes,
 }
+# The same where texts may be given as deltas.
+WITH_DELTAS = {**HEADERS, b'Text-delta': bytes, b'Text-delta-base-md5': HEADERS[b'Text-content-md5']}
 
 
 class Bytes:
@@ -207,29 +214,29 @@ def block_in(data, length, is_delta):
     return Block(data, length, is_delta).read()
 
 
-def headers(data):
+def headers(data, known):
     """A record's headers that are known, up to the empty line behind them."""
     values = {}
     while (line := data.line()) != b'':
         name, colon, value = line.partition(b': ')
         if not colon or name in values:
             raise Refused(2)
-        if name in HEADERS:
-            values[name] = HEADERS[name](value)
+        if name in known:
+            values[name] = known[name](value)
     return values
 
 
 @functools.lru_cache(1024)
-def headers_in(text):
-    return headers(Bytes(text))
+def headers_in(text, takes_deltas):
+    return headers(Bytes(text), WITH_DELTAS if takes_deltas else HEADERS)
 
 
 class Record:
     """The headers of a record, and its content."""
 
     def __init__(self, values):
-        # of a delta the names that are set stand in props, and those that are removed in removed
-        self.values, self.props, self.removed, self.text = values, None, None, None
+        # of a delta the names that are set stand in props, and those that are removed in removed; a text's stands in delta
+        self.values, self.props, self.removed, self.text, self.delta = values, None, None, None, None
 
     def get(self, name):
         return self.values.get(name)
@@ -250,17 +257,20 @@ class Record:
             is_well &= not self.has(b'Node-copyfrom-rev') or action in (b'add', b'replace')
             is_well &= action != b'delete' or self.values.keys().isdisjoint(CONTENT)
         may_be_delta = version == 3 and not self.has(b'UUID') and not self.has(b'Revision-number')
-        if not is_well or (self.is_delta() and not may_be_delta):
+        if not is_well or ((self.is_delta() or self.gives_delta()) and not may_be_delta):
             raise Refused(2)
 
     def is_delta(self):
         return self.get(b'Prop-delta') == b'true'
 
+    def gives_delta(self):
+        return self.get(b'Text-delta') == b'true'
+
     def content(self, data):
         block, text = self.get(b'Prop-content-length'), self.get(b'Text-content-length')
         if self.has(b'Content-length') and self.get(b'Content-length') != (block or 0) + (text or 0):
             raise Refused(4)
-        if (block or 0) > BLOCK or (text or 0) > TEXT:
+        if (block or 0) > BLOCK or (text or 0) > (DELTA if self.gives_delta() else TEXT):
             raise Refused(8)
         if block is not None:
             if block == 0:
@@ -268,14 +278,16 @@ class Record:
             self.props, removed = block_in(data.data[data.at:data.at + block], block, self.is_delta())
             data.at += block
             self.removed = removed if self.is_delta() else None
-        if text is not None:
+        if text is not None and self.gives_delta():
+            self.delta = data.take(text)
+        elif text is not None:
             self.text = data.take(text)
             wanted = self.get(b'Text-content-md5')
             if wanted and hashlib.md5(self.text).hexdigest() != wanted.lower().decode():
                 raise Refused(6)
 
 
-def records(dump):
+def records(dump, takes_deltas=False):
     """The records of a dump, each as it is whole; a refusal is raised behind those before it."""
     data = Bytes(dump)
     first = data.line()
@@ -287,7 +299,8 @@ def records(dump):
     is_first, is_below = True, False
     while (at := EMPTY.match(dump, data.at).end()) < len(dump):
         data.at, end = at, dump.find(b'\n\n', at) + 2
-        record = Record(headers_in(dump[at:end]) if end > at else headers(data))
+        known = WITH_DELTAS if takes_deltas else HEADERS
+        record = Record(headers_in(dump[at:end], takes_deltas) if end > at else headers(data, known))
         data.at = end
         record.form(version, is_first, is_below)
         record.content(data)
@@ -302,12 +315,59 @@ class Change:
         self.path, self.action = record.get(b'Node-path'), record.get(b'Node-action')
         self.kind, self.text = record.get(b'Node-kind'), record.text
         self.props, self.removed = record.props, record.removed
+        # a delta with the sums of its base and of the text that it makes
+        self.delta = record.delta, record.get(b'Text-delta-base-md5'), record.get(b'Text-content-md5')
         self.source = None
         if record.has(b'Node-copyfrom-rev'):
             self.source = record.get(b'Node-copyfrom-path'), record.get(b'Node-copyfrom-rev')
 
     def is_plain(self):
         return self.action in (b'add', b'replace') and self.source is None
+
+
+def text_in(tree, path, absent):
+    if path not in tree:
+        raise Refused(absent)
+    if tree[path]['kind'] == b'dir':
+        raise Refused(17)
+    return tree[path]['text']
+
+
+def base_of(trees, nodes, change):
+    """The text that a change's delta is over."""
+    path, (source, revision) = change.path, change.source or (None, 0)
+    if change.action == b'add' or change.action == b'replace':
+        if change.source is None:
+            return b''
+        return text_in(trees[revision] if revision < len(trees) else {}, source, 14)
+    above = [it for it in nodes if it.action != b'change' and len(it.path) < len(path) and it.path == path[:len(it.path)]]
+    if not above:
+        return text_in(trees[-1], path, 11)
+    # (of the longest the last)
+    nearest = max(reversed(above), key=lambda it: len(it.path))
+    source, revision = nearest.source or (None, len(trees))
+    return text_in(trees[revision] if revision < len(trees) else {}, (source or ()) + path[len(nearest.path):], 11)
+
+
+def has_sum(text, wanted):
+    return wanted is None or hashlib.md5(text).hexdigest() == wanted.lower().decode()
+
+
+def make_whole(trees, nodes):
+    """Puts in place of each delta the text that it makes."""
+    for change in nodes:
+        delta, base_sum, sum = change.delta
+        if delta is None:
+            continue
+        base = base_of(trees, nodes, change)
+        if not has_sum(base, base_sum):
+            raise Refused(6)
+        try:
+            change.text = deltas.read(delta, base)
+        except deltas.Refused as refused:
+            raise Refused(refused.number) from None
+        if not has_sum(change.text, sum):
+            raise Refused(6)
 
 
 def combined(nodes):
@@ -497,7 +557,7 @@ def revision_of(number, props, changes):
 class History:
     """What a dump's revisions come to: their trees, and why it stopped, if it did."""
 
-    def __init__(self, dump):
+    def __init__(self, dump, takes_deltas=False):
         self.identity, self.trees, self.fault = None, [{(): node(b'dir', {}, None, 0)}], None
         # each revision's properties, revision 0's as its last record has them, and its changes
         self.props, self.changes = [{}], [[]]
@@ -506,7 +566,7 @@ class History:
         # the revision whose records come, not judged yet: its number, its properties, its changes
         self.open = None
         try:
-            for record in records(dump):
+            for record in records(dump, takes_deltas):
                 self.take(record)
             self.close()
             self.is_begun = True
@@ -534,6 +594,8 @@ class History:
         elif number != len(self.trees):
             raise Refused(16)
         else:
+            if len(nodes) <= RECORDS:
+                make_whole(self.trees, nodes)
             changes = combined(nodes)
             self.trees.append(applied(self.trees, changes))
             self.props.append(props)

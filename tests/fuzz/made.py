@@ -3,7 +3,8 @@ with a byte or a line that is wrong."""
 import hashlib
 import uuid
 
-from dumps import LATER, Change, Record, Refused, applied, block_of, combined, head_of, node
+import deltas
+from dumps import LATER, Change, Record, Refused, applied, base_of, combined, head_of, node
 
 NAMES = [b'a', b'b', b'a-b', b'c', b'd', b'trunk', b'x y', b'\xc3\xa9', b'PROPS-END', b'K 1', b'0']
 ODD_NAMES = [b'.', b'..', b'\x01', b'\x7f', b'\xff', b'\xed\xa0\x80', b'n' * 255, b'n' * 256, b'']
@@ -27,8 +28,9 @@ def name_of(random):
 class Maker:
     """A history as it grows, kept in trees so that what follows mostly fits."""
 
-    def __init__(self, random, version):
+    def __init__(self, random, version, gives_deltas):
         self.random, self.version, self.trees = random, version, [{(): node(b'dir', {}, None, 0)}]
+        self.gives_deltas = gives_deltas
 
     def path(self, tree, kind=None):
         there = [it for it in tree if it and (kind is None or tree[it]['kind'] == kind)]
@@ -48,7 +50,7 @@ class Maker:
                 record.removed = [it for it in PROPS if it not in record.props and self.random.random() < 0.3]
         elif self.version == 3 and self.random.random() < 0.1:
             record.values[b'Prop-delta'] = b'true'
-        if kind == b'file' and self.random.random() < 0.5 or self.random.random() < 0.01:
+        if kind == b'file' and self.random.random() < (0.9 if self.gives_deltas else 0.5) or self.random.random() < 0.01:
             record.text = some(self.random, 40)
 
     def record(self, tree):
@@ -70,7 +72,27 @@ class Maker:
                 del record.values[b'Node-kind']
         if action != b'delete':
             self.parts(record, kind)
+        if self.gives_deltas and record.text is not None and random.random() < 0.8:
+            self.give_delta(tree, record)
         return record
+
+    def give_delta(self, tree, record):
+        """Gives a record's text as a delta, mostly of what will be its base."""
+        random = self.random
+        try:
+            base = base_of(self.trees, [], Change(record))
+        except Refused:
+            base = tree.get(record.get(b'Node-path'), {}).get('text') or b''
+        if random.random() < 0.04:
+            base += b'x'
+        record.values[b'Text-delta'] = b'true'
+        record.delta = deltas.right_delta_of(random, base)
+        record.text = deltas.read(record.delta, base)
+        if random.random() < 0.7:
+            base += b'y' if random.random() < 0.02 else b''
+            record.values[b'Text-delta-base-md5'] = hashlib.md5(base).hexdigest().encode()
+        if random.random() < 0.03:
+            record.delta = deltas.harmed(random, record.delta)
 
     def split(self, record):
         """A replacement as a deletion and an addition, at times."""
@@ -123,8 +145,9 @@ def spelled(random, record):
         content = b''.join(random.sample(entries, len(entries))) + b'PROPS-END\n'
         lines.append(b'Prop-content-length: ' + digits(random, len(content)))
     if record.text is not None:
-        lines.append(b'Text-content-length: ' + digits(random, len(record.text)))
-        content += record.text
+        given = record.text if record.delta is None else record.delta
+        lines.append(b'Text-content-length: ' + digits(random, len(given)))
+        content += given
         if random.random() < 0.7:
             sum = hashlib.md5(record.text).hexdigest()
             lines.append(b'Text-content-md5: ' + random.choice([sum, sum.upper()]).encode())
@@ -142,10 +165,10 @@ def revision_record(random, number, props):
     return spelled(random, record)
 
 
-def made(random, names=PROPS):
-    """A dump whose revisions have properties of these names."""
-    version = random.choice([2, 2, 3])
-    maker = Maker(random, version)
+def made(random, names=PROPS, gives_deltas=False):
+    """A dump whose revisions have properties of these names, and perhaps texts that are given as deltas."""
+    version = 3 if gives_deltas else random.choice([2, 2, 3])
+    maker = Maker(random, version, gives_deltas)
     identity = str(uuid.UUID(int=random.getrandbits(128))).encode() if random.random() < 0.7 else None
     if identity and random.random() < 0.5:
         identity = identity.upper()
