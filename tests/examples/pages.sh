@@ -123,6 +123,14 @@ operated 'Feed an archive by a timer' 1
 check 'OPERATING: the timer archives it' has archive 22
 mv kept "$hook"
 
+near="s|https://svn.example.org/project|file://$pages/srv/project|; s/ archive/ fetched/"
+operated 'Archive a repository over the network' 1 "$near; s/dump -q/dump -q -r 0:16/"
+check 'OPERATING: what svnrdump wrote is loaded' test "$(tail -n 1 said)" = 'Loaded revision 16.'
+operated 'Archive a repository over the network' 2 "$near"
+check 'OPERATING: and what it wrote later' test "$(grep -c '^Loaded' said)" -eq 6
+check 'OPERATING: it has what the archive has' test "$("$program" dump fetched | md5sum)" = "$("$program" dump archive | md5sum)"
+rm -r fetched project.dump more.dump
+
 # the text of the newest revision is damaged
 printf 'two\n' >text && svn import -q -m two text "file://$pages/srv/project/b.txt"
 python3 - archive/journal <<'END'
@@ -282,6 +290,9 @@ check 'manual: an archive' typed "$(printf '%s\n' "$block" | head -n 2)"
 for i in $(seq 17 20); do svn mkdir -q -m "$i" "file://$PWD/repo/$i"; done
 check 'manual: an incremental dump' typed "$(printf '%s\n' "$block" | tail -n 1)"
 check 'manual: it loads the four' test "$(grep -c '^Loaded' said)" -eq 4
+check 'manual: an archive over the network' typed "$(block_of "$top/docs/svnfleet.1" 'svnrdump dump https' |
+    sed "s|https://host/repository|file://$PWD/repo|; s/UUID/$(svnlook uuid repo)/; s/ archive/ fetched/")"
+check 'manual: it loads all' grep -qx 'Loaded revision 20.' said
 check 'manual: a mirror' typed "$(block_of "$top/docs/svnfleet.1" 'initialize mirror')"
 check 'manual: a mirror is brought up' grep -qx 'Committed revision 20.' said
 rm -f lines
