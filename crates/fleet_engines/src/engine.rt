@@ -3,6 +3,7 @@ ghost use Rattle.std.specs.Prelude.{◌≡◌, ◌&&◌, ◌++◌, ◌⊎◌, []
 ghost use Rattle.std.specs.Io.KnownBytes.{Appends};
 ghost use Rattle.std.specs.List.{flat_map};
 ghost use Rattle.byte_streams.specs.Causes.{Rose};
+ghost use Rattle.byte_streams.specs.Memory.{written_in};
 ghost use Rattle.fleet_engines.specs.Histories.{held, held_by, revs_of, told_of};
 ghost use Rattle.fleet_engines.specs.Runs.{canon_of, has_begun, head_of, CantEnd, Counted, EndsWith, RefusesOne, TakesOne};
 
@@ -11,7 +12,7 @@ use crate::listing::newest_listing;
 use crate::product::Product;
 use crate::stream::write;
 use crate::taker::Taker;
-use byte_streams::Output;
+use byte_streams::{Output, VecWriter};
 use dump_text::{DumpRecord, RevRecord, write_head, write_props_entry, write_revision};
 use node_base::{Refusal, RevNo};
 use std::alloc::{AllocError, Global};
@@ -26,14 +27,14 @@ pub struct Lister {
 #[derive(Drop)]
 pub struct Rewriter {
     // What is due, made whole before it is written. Its memory serves every revision.
-    due: Vec<u8>,
+    due: VecWriter,
 }
 
 impl Rewriter {
     /// Nothing is due yet.
     pub fn new(alloc: Global) -> Rewriter {
         Rewriter {
-            due: Vec::new(alloc),
+            due: VecWriter::new(alloc),
         }
     }
 }
@@ -46,8 +47,8 @@ fn begins(had_begun: bool, history: &History) -> bool
 }
 
 // Adds the head and revision 0, where they are due.
-fn push_beginning(is_due: bool, history: &History, bytes: &mut Vec<u8>) -> Result<(), AllocError>
-    ensures { OnOk result (Appends (Some bytes.old.items) (Some bytes.new.items)
+fn push_beginning(is_due: bool, history: &History, bytes: &mut VecWriter) -> Result<(), AllocError>
+    ensures { OnOk result (Appends (Some (written_in bytes.old)) (Some (written_in bytes.new))
         (if is_due then head_of (told_of history.now) else [])) }
 {
     if !is_due {
@@ -63,8 +64,8 @@ fn push_beginning(is_due: bool, history: &History, bytes: &mut Vec<u8>) -> Resul
 }
 
 // Adds the revision that is whole, if there is one.
-fn push_closed(closed: &Option<RevRecord>, bytes: &mut Vec<u8>) -> Result<(), AllocError>
-    ensures { OnOk result (Appends (Some bytes.old.items) (Some bytes.new.items)
+fn push_closed(closed: &Option<RevRecord>, bytes: &mut VecWriter) -> Result<(), AllocError>
+    ensures { OnOk result (Appends (Some (written_in bytes.old)) (Some (written_in bytes.new))
         (flat_map canon_of (revs_of closed.now))) }
 {
     match closed {
@@ -92,13 +93,12 @@ fn make_due(
     is_due: bool,
     history: &History,
     closed: &Option<RevRecord>,
-    bytes: &mut Vec<u8>,
+    bytes: &mut VecWriter,
 ) -> Result<(), AllocError>
-    ensures { OnOk result (bytes.new.items ≡ (if is_due then head_of (told_of history.now) else [])
+    ensures { OnOk result (written_in bytes.new ≡ (if is_due then head_of (told_of history.now) else [])
         ++ flat_map canon_of (revs_of closed.now)) }
 {
-    bytes.clear();
-    bytes.reserve(room_for(closed))?;
+    bytes.restart(room_for(closed))?;
     push_beginning(is_due, history, bytes)?;
     push_closed(closed, bytes)
 }
@@ -108,7 +108,7 @@ fn write_due<O: Output>(
     is_due: bool,
     history: &History,
     closed: &Option<RevRecord>,
-    bytes: &mut Vec<u8>,
+    bytes: &mut VecWriter,
     output: &mut O,
 ) -> Result<(), Refusal>
     ensures ok { OnOk result (Appends (O.contents output.old) (O.contents output.new)
@@ -143,7 +143,7 @@ fn list_record<O: Output>(
 
 // A record more of a dump that is written in its canonical spelling. What is due of it is written.
 fn rewrite<O: Output>(
-    bytes: &mut Vec<u8>,
+    bytes: &mut VecWriter,
     history: &mut History,
     next: DumpRecord,
     output: &mut O,
@@ -181,7 +181,7 @@ fn finish_list<O: Output>(
 
 // What isn't written yet of the canonical spelling.
 fn finish_canon<O: Output>(
-    bytes: &mut Vec<u8>,
+    bytes: &mut VecWriter,
     history: &mut History,
     output: &mut O,
 ) -> Result<(), Refusal>

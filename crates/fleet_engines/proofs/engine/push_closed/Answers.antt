@@ -6,6 +6,6 @@ use Rattle.fleet_engines.proofs.engine.push_closed.Goals as goal
 pub returns-else-is_err : goal.returns-else-is_err
 returns-else-is_err c =
     let r = c.in-Some.revision in
-    let before = c.args.bytes.now.items in
-    let written : c.write_revision.new.out.items ≡ before ++ canon_revision r = search rules in
+    let before = c.args.bytes.now.bytes.items in
+    let written : c.write_revision.new.out.bytes.items ≡ before ++ canon_revision r = search rules in
     written ∙ ap (λ l. before ++ l) (spelled_back c.args.closed.now r c.in-Some.is)
