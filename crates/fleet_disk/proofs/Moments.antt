@@ -1,7 +1,7 @@
 -- How a run of calls of a disk goes on.
-use Rattle.std.proofs.Common.{inl, inr, ⊎_elim, ℕ, arith}
+use Rattle.std.proofs.Common.{◌≤◌, inl, inr, ⊎_elim, ℕ, arith}
 use Rattle.fleet_disk.specs.Image.{Image}
-use Rattle.fleet_disk.specs.Rules.{Elapses, LeavesOnly}
+use Rattle.fleet_disk.specs.Rules.{Elapses, LeavesOnly, Within}
 
 module _ {D : Type 0} (clock : D → ℕ) (left_since : D → ℕ → Image → Type 0) where
   -- before the first call
@@ -31,4 +31,14 @@ module _ {D : Type 0} (clock : D → ℕ) (left_since : D → ℕ → Image → 
     later = run.later;
     each = λ c left. inside c (run.each c left);
     before = λ t c le left. ⊎_elim (λ past. inl past) (λ p. inr (inside c p)) (run.before t c le left);
+  }
+
+module _ {D : Type 0} (clock : D → ℕ) (left_since : D → ℕ → Image → Type 0) (may_leave : D → Image → Type 0) where
+  -- time goes on by two calls, of which the first leaves nothing else
+  pub elapses_then : (a b c : D) → ((t : ℕ) (x : Image) → t ≤ clock a → may_leave a x → left_since a t x) → Within (may_leave b) (may_leave a) → Elapses (clock a) (clock b) (left_since a) (left_since b) (may_leave b)
+      → Elapses (clock b) (clock c) (left_since b) (left_since c) (may_leave c) → Elapses (clock a) (clock c) (left_since a) (left_since c) (may_leave c)
+  elapses_then a b c counts inside first then = record {
+    later = omega (arith, first.later, then.later);
+    nothing_else = λ t x le since. ⊎_elim (λ past. inl (⊎_elim (λ before. before) (λ now. counts t x le (inside x now)) (first.nothing_else t x le past))) (λ now. inr now) (then.nothing_else t x (omega (arith, le, first.later)) since);
+    keeps = λ t x le past. then.keeps t x (omega (arith, le, first.later)) (first.keeps t x le past);
   }

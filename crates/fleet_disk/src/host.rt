@@ -15,8 +15,8 @@ use std::alloc::Global;
 ///
 /// It keeps the rules of a disk where the host keeps its own. A sync syncs the files that were written or cut since the
 /// last one, and at first all, for what an earlier process left. A file is read by 64 KiB at once, as long as there is
-/// memory for that, and what was read ahead is forgotten when a file is written or cut. A call is refused only where one
-/// of the host failed.
+/// memory for that, and what was read ahead is forgotten when a file is written or cut. A file that has the length that it
+/// is to be cut to stays as it is, and so do its times. A call is refused only where one of the host failed.
 #[derive(Drop)]
 pub struct HostDisk<H: HostCalls> {
     host: H,
@@ -115,6 +115,10 @@ impl<H: HostCalls> Disk for HostDisk<H> {
     }
 
     fn cut(&mut self, file: DiskFile, len: u64) -> Result<(), DiskFault> {
+        let length = self.host.length(file)?;
+        if length == len {
+            return Ok(());
+        }
         self.stir(file);
         self.host.truncate(file, len)
     }
