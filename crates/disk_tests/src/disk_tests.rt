@@ -1,6 +1,6 @@
 //! Stops, folders and fuses: disks by what is read of them.
 
-use crate::folders::{Deed, first_undone};
+use crate::folders::{Deed, first_undone, made_disk};
 use crate::steps::{GATE, JOURNAL, SLOTS, Step, first_wrong, none_wrong};
 use fleet_disk::{Disk, DiskFile, Fuse, FuseDisk, HostDisk, MemDisk, OverDisk, Pick};
 use std::alloc::Global;
@@ -151,7 +151,7 @@ fn a_folder(rt: HostRuntime) {
 
 // Whether a folder is refused while it is open, and can be written meanwhile.
 fn is_held(rt: &HostRuntime, folder: &str) -> bool {
-    match HostDisk::create(rt, rt.alloc(), folder) {
+    match made_disk(rt, rt.alloc(), folder) {
         Ok(mut disk) => {
             first_undone(rt, folder, &[Deed::Refused]).is_none()
                 && disk.write_at(JOURNAL, 0, b"kept").is_ok()

@@ -1,8 +1,9 @@
 //! A disk over a host that remembers what was asked of it, and that may fail.
-ghost use Rattle.std.specs.Prelude.{◌≡◌, ⊤, IfOk};
+ghost use Rattle.std.specs.Prelude.{◌≡◌, IfOk};
 
+use crate::folders::{completed_disk, made_disk, opened_disk};
 use crate::steps::{GATE, Step, first_wrong, none_wrong};
-use fleet_disk::{Disk, DiskFile, HeldFiles, HostDisk, StdFiles};
+use fleet_disk::{Disk, DiskFile, FolderFault, HeldFiles, HostDisk, StdFiles};
 use std::alloc::{Allocator, Global};
 use std::cell::Cell;
 use std::fs::{Metadata, OpenFile, OpenOptions};
@@ -161,7 +162,7 @@ impl<'a> Files for FakeHost<'a> {
     }
 
     fn create_dir(&self, _path: &str) -> io::Result<()> {
-        Err(unsupported())
+        Err(io::Error::from(ErrorKind::AlreadyExists))
     }
 
     fn remove_dir(&self, _path: &str) -> io::Result<()> {
@@ -174,12 +175,6 @@ impl<'a> Files for FakeHost<'a> {
 }
 
 impl<'a> HeldFiles for FakeHost<'a> {
-    ghost is_at = { λ file path. ⊤ };
-
-    ghost is_held = { λ file. ⊤ };
-
-    ghost has_bytes = { λ file. ⊤ };
-
     fn open_at(&self, path: &str, _make: bool) -> io::Result<FakeFile<'a>> {
         Ok(FakeFile {
             asked: self.asked,
@@ -215,7 +210,7 @@ fn nothing_asked() -> Asked {
 // The disk of a folder whose host is asked so.
 fn made<'a>(rt: &impl Abort, alloc: Global, asked: &'a Asked) -> HostDisk<StdFiles<FakeFile<'a>>> {
     let host = FakeHost { asked };
-    HostDisk::create(&host, alloc, "folder").expect(rt, "a disk")
+    made_disk(&host, alloc, "folder").ok().expect(rt, "a disk")
 }
 
 // Whether so many files were held, and so many syncs made of a file and of the folder.
@@ -276,7 +271,7 @@ fn what_a_change_is_asked(rt: HostRuntime) {
 }
 
 // Whether there is no disk.
-fn is_refused(made: io::Result<HostDisk<StdFiles<FakeFile<'_>>>>) -> bool {
+fn is_refused(made: Result<HostDisk<StdFiles<FakeFile<'_>>>, FolderFault>) -> bool {
     made.is_err()
 }
 
@@ -285,7 +280,7 @@ fn is_refused(made: io::Result<HostDisk<StdFiles<FakeFile<'_>>>>) -> bool {
 fn what_a_completion_is_asked(rt: HostRuntime) {
     let asked = nothing_asked();
     let host = FakeHost { asked: &asked };
-    assert!(rt; !is_refused(HostDisk::complete(&host, rt.alloc(), "folder")));
+    assert!(rt; !is_refused(completed_disk(&host, rt.alloc(), "folder")));
     assert!(rt; was_asked(&asked, 1, 0, 1));
 }
 
@@ -296,9 +291,9 @@ fn a_folder_that_is_held(rt: HostRuntime) {
     let asked = nothing_asked();
     asked.fails.set(true);
     let host = FakeHost { asked: &asked };
-    assert!(rt; is_refused(HostDisk::create(&host, alloc, "folder")));
-    assert!(rt; is_refused(HostDisk::open(&host, alloc, "folder")));
-    assert!(rt; is_refused(HostDisk::complete(&host, alloc, "folder")));
+    assert!(rt; is_refused(made_disk(&host, alloc, "folder")));
+    assert!(rt; is_refused(opened_disk(&host, alloc, "folder")));
+    assert!(rt; is_refused(completed_disk(&host, alloc, "folder")));
     assert!(rt; was_asked(&asked, 3, 0, 0));
 }
 

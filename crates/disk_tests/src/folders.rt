@@ -2,7 +2,11 @@
 
 use crate::disk_tests::goes_round;
 use crate::steps::{Step, first_wrong};
-use fleet_disk::{HostDisk, StdFiles};
+use fleet_disk::{
+    FolderFault, HeldFiles, HostDisk, StdFiles, StdFolders, complete_folder, create_folder,
+    open_folder,
+};
+use std::alloc::Global;
 use std::fs::{File, OpenOptions};
 use std::io::Write;
 use std::{fs, io};
@@ -34,6 +38,33 @@ pub(crate) enum Deed<'a> {
 
 type Folder = HostDisk<StdFiles<File>>;
 
+/// The disk of a folder, which is made where it is missing.
+pub(crate) fn made_disk<R: HeldFiles>(
+    host: &R,
+    alloc: Global,
+    folder: &str,
+) -> Result<HostDisk<StdFiles<R::File>>, FolderFault> {
+    create_folder(&mut StdFolders::new(host), alloc, folder)
+}
+
+/// The disk of a folder.
+pub(crate) fn opened_disk<R: HeldFiles>(
+    host: &R,
+    alloc: Global,
+    folder: &str,
+) -> Result<HostDisk<StdFiles<R::File>>, FolderFault> {
+    open_folder(&mut StdFolders::new(host), alloc, folder)
+}
+
+/// The disk of a folder, with its slots.
+pub(crate) fn completed_disk<R: HeldFiles>(
+    host: &R,
+    alloc: Global,
+    folder: &str,
+) -> Result<HostDisk<StdFiles<R::File>>, FolderFault> {
+    complete_folder(&mut StdFolders::new(host), alloc, folder)
+}
+
 /// An empty folder of this name.
 pub(crate) fn empty_folder(rt: &HostRuntime, folder: &str) -> io::Result<()> {
     let _missing = fs::remove_dir_all(rt, folder);
@@ -54,7 +85,7 @@ fn length(rt: &HostRuntime, path: &str) -> Option<u64> {
 }
 
 // Whether there is a disk, and its calls come to what they say.
-fn goes(disk: io::Result<Folder>, steps: &[Step<'_>]) -> bool {
+fn goes(disk: Result<Folder, FolderFault>, steps: &[Step<'_>]) -> bool {
     match disk {
         Ok(mut disk) => first_wrong(&mut disk, steps).is_none(),
         Err(_) => false,
@@ -69,16 +100,16 @@ fn comes(rt: &HostRuntime, folder: &str, deed: &Deed<'_>) -> bool {
         Deed::Take(path) => fs::remove_file(rt, path).is_ok(),
         Deed::Missing(path) => length(rt, path).is_none(),
         Deed::Has(path, count) => length(rt, path) == Some(count),
-        Deed::Made(steps) => goes(HostDisk::create(rt, rt.alloc(), folder), steps),
-        Deed::Opened(steps) => goes(HostDisk::open(rt, rt.alloc(), folder), steps),
-        Deed::Completed(steps) => goes(HostDisk::complete(rt, rt.alloc(), folder), steps),
-        Deed::Round => match HostDisk::create(rt, rt.alloc(), folder) {
+        Deed::Made(steps) => goes(made_disk(rt, rt.alloc(), folder), steps),
+        Deed::Opened(steps) => goes(opened_disk(rt, rt.alloc(), folder), steps),
+        Deed::Completed(steps) => goes(completed_disk(rt, rt.alloc(), folder), steps),
+        Deed::Round => match made_disk(rt, rt.alloc(), folder) {
             Ok(mut disk) => goes_round(&mut disk),
             Err(_) => false,
         },
         Deed::Refused => {
-            !goes(HostDisk::open(rt, rt.alloc(), folder), &[])
-                && !goes(HostDisk::create(rt, rt.alloc(), folder), &[])
+            !goes(opened_disk(rt, rt.alloc(), folder), &[])
+                && !goes(made_disk(rt, rt.alloc(), folder), &[])
         }
         Deed::Gone => fs::remove_dir_all(rt, folder).is_ok(),
     }

@@ -1,10 +1,10 @@
 //! Growths that are refused. `rt try --test --fail-alloc N` refuses the growth of number N and no other: an assertion
 //! that fails then is a wrong answer, and an error that ends a test is that refusal.
 
-use crate::folders::empty_folder;
+use crate::folders::{empty_folder, made_disk};
 use crate::log_tests::{created, opened};
 use crate::steps::none_wrong;
-use fleet_disk::{Disk, HostDisk, MemDisk};
+use fleet_disk::{Disk, MemDisk};
 use gate_log::{GateLog, LogFault};
 use std::alloc::Global;
 use std::fs;
@@ -66,7 +66,7 @@ fn are_added<D: Disk>(log: &mut GateLog<D>) -> bool {
 
 // Whether a log is begun in a folder and takes the three.
 fn begins_and_adds(rt: &HostRuntime, folder: &str) -> Result<bool, LogFault> {
-    match HostDisk::create(rt, rt.alloc(), folder) {
+    match made_disk(rt, rt.alloc(), folder) {
         Ok(disk) => match created(rt.alloc(), disk) {
             Ok(mut log) => Ok(are_added(&mut log)),
             Err(fault) => Err(fault),
@@ -110,7 +110,7 @@ fn three_texts<D: Disk + Drop>(alloc: Global, disk: D) -> Result<D, LogFault> {
 
 // Whether an opening finds the three texts in a folder.
 fn is_found_in(rt: &HostRuntime, folder: &str) -> Result<bool, LogFault> {
-    match HostDisk::create(rt, rt.alloc(), folder) {
+    match made_disk(rt, rt.alloc(), folder) {
         Ok(disk) => match three_texts(rt.alloc(), disk) {
             Ok(disk) => Ok(is_found(rt.alloc(), disk)),
             Err(fault) => Err(fault),

@@ -16,6 +16,10 @@ mod growth_tests;
 #[cfg(test)]
 mod log_tests;
 #[cfg(test)]
+mod one_folder;
+#[cfg(test)]
+mod one_folder_tests;
+#[cfg(test)]
 mod steps;
 #[cfg(test)]
 mod upgrade_tests;

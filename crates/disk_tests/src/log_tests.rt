@@ -1,8 +1,8 @@
 //! Logs over disks in memory and a folder: what an opening finds after each stop and each failure.
 
-use crate::folders::{Deed, first_undone};
+use crate::folders::{Deed, first_undone, made_disk, opened_disk};
 use crate::steps::{GATE, SLOTS, none_wrong};
-use fleet_disk::{Disk, DiskFile, Fuse, FuseDisk, HostDisk, MemDisk, Pick};
+use fleet_disk::{Disk, DiskFile, Fuse, FuseDisk, MemDisk, Pick};
 use gate_log::{GateLog, LogFault, LogVersion, one_verdict};
 use std::alloc::Global;
 use std::process::Abort;
@@ -642,7 +642,7 @@ fn takes_both<D: Disk + Drop>(alloc: Global, disk: D) -> bool {
 
 // Whether that is so in a folder.
 fn is_begun(rt: &HostRuntime, folder: &str) -> bool {
-    match HostDisk::create(rt, rt.alloc(), folder) {
+    match made_disk(rt, rt.alloc(), folder) {
         Ok(disk) => takes_both(rt.alloc(), disk),
         Err(_) => false,
     }
@@ -650,7 +650,7 @@ fn is_begun(rt: &HostRuntime, folder: &str) -> bool {
 
 // Whether the log of a folder is refused so.
 fn is_refused(rt: &HostRuntime, folder: &str, wanted: LogFault) -> bool {
-    match HostDisk::open(rt, rt.alloc(), folder) {
+    match opened_disk(rt, rt.alloc(), folder) {
         Ok(disk) => not_opened(rt.alloc(), disk) == Some(wanted),
         Err(_) => false,
     }
@@ -658,7 +658,7 @@ fn is_refused(rt: &HostRuntime, folder: &str, wanted: LogFault) -> bool {
 
 // Whether the log of a folder has the two entries.
 fn is_kept(rt: &HostRuntime, folder: &str) -> bool {
-    match HostDisk::open(rt, rt.alloc(), folder) {
+    match opened_disk(rt, rt.alloc(), folder) {
         Ok(disk) => opens_with(rt.alloc(), disk, 2),
         Err(_) => false,
     }
@@ -666,7 +666,7 @@ fn is_kept(rt: &HostRuntime, folder: &str) -> bool {
 
 // Whether no log is begun where there is one.
 fn is_there(rt: &HostRuntime, folder: &str) -> bool {
-    match HostDisk::create(rt, rt.alloc(), folder) {
+    match made_disk(rt, rt.alloc(), folder) {
         Ok(disk) => {
             let (fault, _disk) = tried_to_begin(rt.alloc(), disk);
             fault == Some(LogFault::ThereAlready)
@@ -677,7 +677,7 @@ fn is_there(rt: &HostRuntime, folder: &str) -> bool {
 
 // Makes the second entry's length, 11, 3.
 fn damages(rt: &HostRuntime, folder: &str) -> bool {
-    match HostDisk::open(rt, rt.alloc(), folder) {
+    match opened_disk(rt, rt.alloc(), folder) {
         Ok(mut disk) => disk.write_at(DiskFile::Slots, 33, &[3]).is_ok(),
         Err(_) => false,
     }

@@ -1,4 +1,5 @@
+pub mod AboveLemmas
 pub mod AheadLemmas
-pub mod InFolder
 pub mod Kept
+pub mod Lending
 pub mod Moments

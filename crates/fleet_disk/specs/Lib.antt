@@ -1,8 +1,11 @@
+pub mod Above
 pub mod Ahead
 pub mod Contents
+pub mod FolderFiles
 pub mod Fused
 pub mod Host
 pub mod Image
+pub mod Lending
 pub mod Memory
 pub mod MemoryLaws
 pub mod Rests

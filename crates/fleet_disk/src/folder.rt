@@ -1,88 +1,374 @@
-//! The disk of a folder of the host.
-ghost use Rattle.std.specs.Prelude.{◌≡◌, ◌⊎◌, IfOk};
-ghost use Rattle.fleet_disk.specs.Host.{failures_of, HasBytes, HasFiles, IsHeld, IsIn, LacksEntries};
+//! The disks of folders, by the single calls of a host.
+ghost use Rattle.std.specs.Prelude.{◌≡◌, ◌≤◌, ◌⊎◌, IfOk, IfErr, IfSome, IsSome, IsTrue, OnOk, OnErr, string_bytes};
+ghost use Rattle.std.specs.Prelude.{IsNone, IsSomeAnd};
+ghost use Rattle.fleet_disk.specs.FolderFiles.{path_in, AreIn, HasBytes, HasFiles, IsFound, IsHeld, LacksEntries};
+ghost use Rattle.fleet_disk.specs.Lending.{IsCounted, Lends, MakesIn, MakesNothing, MakesOnly, Spares};
+ghost use Rattle.fleet_disk.specs.declared.disk.DiskFile.TheVariants.{Gate, Journal, Slots};
 
-use crate::files::{HeldFiles, StdFiles, completed, found, has_bytes, sync_folder, with_slots};
-use crate::host::HostDisk;
-use std::alloc::Global;
-use std::fs::OpenFile;
-use std::io;
-use std::io::Seek;
-use std::os::unix::fs::FileExt;
+use crate::above::above;
+use crate::disk::DiskFile;
+use crate::folder_calls::FolderCalls;
+use crate::folder_fault::FolderFault;
+use crate::folder_files::FolderFiles;
+use std::alloc::{AllocError, Global};
 
-impl<F: FileExt + Seek + OpenFile + Drop> HostDisk<StdFiles<F>> {
-    /// Opens the files of a folder, and makes none. A file that isn't there counts as empty, and isn't held. While the
-    /// disk is open nobody else has the folder: it holds the journal. No failure is counted yet. The host refuses where
-    /// the folder is in use; it or memory may refuse besides.
-    pub fn open<R: HeldFiles<File = F>>(
-        rt: &R,
-        alloc: Global,
-        folder: &str,
-    ) -> io::Result<HostDisk<StdFiles<F>>>
-        ensures failures { IfOk result (λ disk. failures_of disk ≡ 0) }
-        ensures held { IfOk result (IsHeld R.is_held) }
-        ensures inside { IfOk result (IsIn R.is_at folder.now) }
-    {
-        let journal = format!(in alloc; "{folder}/journal")?;
-        let gate = format!(in alloc; "{folder}/gate")?;
-        let slots = format!(in alloc; "{folder}/slots")?;
-        let files = found(rt, journal.as_str(), gate.as_str(), slots.as_str())?;
-        Ok(HostDisk::new(alloc, files))
+/// Lends the disk of a folder as it stands, and makes nothing. A file that isn't there counts as empty, and isn't held.
+/// While the disk is lent nobody else has the folder: it holds the journal. No failure of the disk is counted yet. The
+/// host refuses where the folder is in use (31); it or memory (70) may refuse besides.
+pub fn open_folder<C: FolderCalls>(
+    calls: &mut C,
+    alloc: Global,
+    folder: &str,
+) -> Result<C::Place, FolderFault>
+    ensures lends { IfOk result (Lends C.Place.Disk C.honest C.disk calls.old calls.new folder.now) }
+    ensures held { IfOk result (λ place. IsHeld C.is_held (C.files place)) }
+    ensures inside { IfOk result (λ place. AreIn C.is_at (C.lacks calls.new) folder.now (C.files place)) }
+    ensures uncounted { IfOk result (λ place. C.Place.failures place ≡ 0) }
+    ensures nothing { MakesNothing C.lacks calls.old calls.new }
+    ensures same { OnErr result (Spares C.honest C.disk C.failures calls.old calls.new) }
+    ensures later { C.failures calls.old ≤ C.failures calls.new }
+    ensures cause { IfErr result (IsCounted (C.failures calls.old) (C.failures calls.new)) }
+{
+    let files = found(calls, alloc, folder)?;
+    lend(calls, alloc, folder, files)
+}
+
+/// Lends the disk of a folder as `open_folder` does, but makes the folder and its files where they are missing, so that
+/// all files are open, and makes the names of new ones last. Where a file is there already and isn't empty, nothing is
+/// made. The folder above has to be there.
+pub fn create_folder<C: FolderCalls>(
+    calls: &mut C,
+    alloc: Global,
+    folder: &str,
+) -> Result<C::Place, FolderFault>
+    ensures lends { IfOk result (Lends C.Place.Disk C.honest C.disk calls.old calls.new folder.now) }
+    ensures held { IfOk result (λ place. IsHeld C.is_held (C.files place)) }
+    ensures inside { IfOk result (λ place. AreIn C.is_at (C.lacks calls.new) folder.now (C.files place)) }
+    ensures made { IfOk result (λ place. HasFiles (C.files place)
+        ⊎ (HasBytes C.has_bytes (C.files place) × MakesNothing C.lacks calls.old calls.new)) }
+    ensures uncounted { IfOk result (λ place. C.Place.failures place ≡ 0) }
+    ensures nothing_else { MakesIn C.lacks folder.now calls.old calls.new }
+    ensures same { OnErr result (Spares C.honest C.disk C.failures calls.old calls.new) }
+    ensures later { C.failures calls.old ≤ C.failures calls.new }
+    ensures cause { IfErr result (IsCounted (C.failures calls.old) (C.failures calls.new)) }
+{
+    let files = found(calls, alloc, folder)?;
+    let is_full = has_bytes(calls, &files)?;
+    if is_full {
+        return lend(calls, alloc, folder, files);
     }
+    let files = make_all(calls, alloc, folder, files)?;
+    lend(calls, alloc, folder, files)
+}
 
-    /// Opens the files of a folder, and makes those that are missing, so that all are open; but where one of them is
-    /// there already and isn't empty, nothing is made. The journal is held. No failure is counted yet. The host refuses
-    /// where the folder is in use; it or memory may refuse besides.
-    pub fn create<R: HeldFiles<File = F>>(
-        rt: &R,
-        alloc: Global,
-        folder: &str,
-    ) -> io::Result<HostDisk<StdFiles<F>>>
-        ensures failures { IfOk result (λ disk. failures_of disk ≡ 0) }
-        ensures files { IfOk result (λ disk. HasFiles disk ⊎ HasBytes R.has_bytes disk) }
-        ensures held { IfOk result (IsHeld R.is_held) }
-        ensures inside { IfOk result (IsIn R.is_at folder.now) }
-    {
-        let journal = format!(in alloc; "{folder}/journal")?;
-        let gate = format!(in alloc; "{folder}/gate")?;
-        let slots = format!(in alloc; "{folder}/slots")?;
-        let files = found(rt, journal.as_str(), gate.as_str(), slots.as_str())?;
-        if has_bytes(rt, &files)? {
-            return Ok(HostDisk::new(alloc, files));
-        }
-        let files = completed(rt, files, journal.as_str(), gate.as_str(), slots.as_str())?;
-        // The names of new files last once the folder is synced.
-        sync_folder(rt, folder)?;
-        Ok(HostDisk::new(alloc, files))
+/// Lends the disk of a folder as `open_folder` does, but makes `slots` where that alone is missing, and makes its name
+/// last: a log that has its entries in the other two can then be written with sums. Where the journal or the gate isn't
+/// there, nothing is made.
+pub fn complete_folder<C: FolderCalls>(
+    calls: &mut C,
+    alloc: Global,
+    folder: &str,
+) -> Result<C::Place, FolderFault>
+    ensures lends { IfOk result (Lends C.Place.Disk C.honest C.disk calls.old calls.new folder.now) }
+    ensures held { IfOk result (λ place. IsHeld C.is_held (C.files place)) }
+    ensures inside { IfOk result (λ place. AreIn C.is_at (C.lacks calls.new) folder.now (C.files place)) }
+    ensures made { IfOk result (λ place. HasFiles (C.files place)
+        ⊎ (LacksEntries (C.files place) × MakesNothing C.lacks calls.old calls.new)) }
+    ensures uncounted { IfOk result (λ place. C.Place.failures place ≡ 0) }
+    ensures nothing_else { MakesIn C.lacks folder.now calls.old calls.new }
+    ensures same { OnErr result (Spares C.honest C.disk C.failures calls.old calls.new) }
+    ensures later { C.failures calls.old ≤ C.failures calls.new }
+    ensures cause { IfErr result (IsCounted (C.failures calls.old) (C.failures calls.new)) }
+{
+    let files = found(calls, alloc, folder)?;
+    if lacks_entries(&files) {
+        return lend(calls, alloc, folder, files);
     }
+    let files = make_slots(calls, alloc, folder, files)?;
+    lend(calls, alloc, folder, files)
+}
 
-    /// Opens the files of a folder as `open` does, and makes `slots` where that alone is missing: a log that has its
-    /// entries in the other two can then be written with sums. Where the journal or the gate isn't there, nothing is
-    /// made. The journal is held. No failure is counted yet. The host refuses where the folder is in use; it or memory
-    /// may refuse besides.
-    pub fn complete<R: HeldFiles<File = F>>(
-        rt: &R,
-        alloc: Global,
-        folder: &str,
-    ) -> io::Result<HostDisk<StdFiles<F>>>
-        ensures failures { IfOk result (λ disk. failures_of disk ≡ 0) }
-        ensures files { IfOk result (λ disk. HasFiles disk ⊎ LacksEntries disk) }
-        ensures held { IfOk result (IsHeld R.is_held) }
-        ensures inside { IfOk result (IsIn R.is_at folder.now) }
-    {
-        let journal = format!(in alloc; "{folder}/journal")?;
-        let gate = format!(in alloc; "{folder}/gate")?;
-        let slots = format!(in alloc; "{folder}/slots")?;
-        let files = found(rt, journal.as_str(), gate.as_str(), slots.as_str())?;
-        if files.journal.is_none() {
-            return Ok(HostDisk::new(alloc, files));
-        }
-        if files.gate.is_none() {
-            return Ok(HostDisk::new(alloc, files));
-        }
-        let files = with_slots(rt, files, slots.as_str())?;
-        // Also where an earlier call was stopped before it came to this.
-        sync_folder(rt, folder)?;
-        Ok(HostDisk::new(alloc, files))
+// Lends the disk of a folder over these files.
+fn lend<C: FolderCalls>(
+    calls: &mut C,
+    alloc: Global,
+    folder: &str,
+    files: FolderFiles<C::File>,
+) -> Result<C::Place, FolderFault>
+    requires inside { AreIn C.is_at (C.lacks calls.old) folder.now files }
+    requires held { IsHeld C.is_held files }
+    ensures lends { IfOk result (Lends C.Place.Disk C.honest C.disk calls.old calls.new folder.now) }
+    ensures files { IfOk result (λ place. C.files place ≡ files) }
+    ensures uncounted { IfOk result (λ place. C.Place.failures place ≡ 0) }
+    ensures nothing { MakesNothing C.lacks calls.old calls.new }
+    ensures same { OnErr result (Spares C.honest C.disk C.failures calls.old calls.new) }
+    ensures later { C.failures calls.old ≤ C.failures calls.new }
+    ensures cause { IfErr result (IsCounted (C.failures calls.old) (C.failures calls.new)) }
+{
+    let mut opened = files;
+    calls.lend(alloc, folder, &mut opened)
+}
+
+// Where a folder has a file.
+fn path_to(alloc: Global, folder: &str, file: DiskFile) -> Result<String, AllocError>
+    ensures { IfOk result (λ path. string_bytes path ≡ path_in folder.now file) }
+{
+    match file {
+        DiskFile::Journal => format!(in alloc; "{folder}/journal"),
+        DiskFile::Gate => format!(in alloc; "{folder}/gate"),
+        DiskFile::Slots => format!(in alloc; "{folder}/slots"),
     }
+}
+
+// Opens a file of a folder, where it is there.
+fn opened<C: FolderCalls>(
+    calls: &mut C,
+    alloc: Global,
+    folder: &str,
+    file: DiskFile,
+) -> Result<Option<C::File>, FolderFault>
+    ensures found { IfOk result (IsFound C.is_at (C.lacks calls.new) (path_in folder.now file)) }
+    ensures nothing { MakesNothing C.lacks calls.old calls.new }
+    ensures spares { Spares C.honest C.disk C.failures calls.old calls.new }
+    ensures cause { IfErr result (IsCounted (C.failures calls.old) (C.failures calls.new)) }
+{
+    let path = path_to(alloc, folder, file)?;
+    calls.open(path.as_str())
+}
+
+// Opens a file of a folder, which is made where it is missing.
+fn made<C: FolderCalls>(
+    calls: &mut C,
+    alloc: Global,
+    folder: &str,
+    file: DiskFile,
+) -> Result<C::File, FolderFault>
+    ensures at { IfOk result (λ made. C.is_at made (path_in folder.now file)) }
+    ensures nothing_else { MakesIn C.lacks folder.now calls.old calls.new }
+    ensures spares { Spares C.honest C.disk C.failures calls.old calls.new }
+    ensures cause { IfErr result (IsCounted (C.failures calls.old) (C.failures calls.new)) }
+{
+    let path = path_to(alloc, folder, file)?;
+    calls.make(path.as_str())
+}
+
+// Holds the journal, where it is there.
+fn hold_found<C: FolderCalls>(calls: &mut C, journal: &Option<C::File>) -> Result<(), FolderFault>
+    ensures held { OnOk result (IfSome journal.now C.is_held) }
+    ensures nothing { MakesNothing C.lacks calls.old calls.new }
+    ensures spares { Spares C.honest C.disk C.failures calls.old calls.new }
+    ensures cause { IfErr result (IsCounted (C.failures calls.old) (C.failures calls.new)) }
+{
+    match journal {
+        Some(file) => calls.hold(file),
+        None => Ok(()),
+    }
+}
+
+// The files of a folder that are there, of which the journal is held.
+fn found<C: FolderCalls>(
+    calls: &mut C,
+    alloc: Global,
+    folder: &str,
+) -> Result<FolderFiles<C::File>, FolderFault>
+    ensures inside { IfOk result (AreIn C.is_at (C.lacks calls.new) folder.now) }
+    ensures held { IfOk result (IsHeld C.is_held) }
+    ensures nothing { MakesNothing C.lacks calls.old calls.new }
+    ensures spares { Spares C.honest C.disk C.failures calls.old calls.new }
+    ensures cause { IfErr result (IsCounted (C.failures calls.old) (C.failures calls.new)) }
+{
+    let journal = opened(calls, alloc, folder, DiskFile::Journal)?;
+    hold_found(calls, &journal)?;
+    let gate = opened(calls, alloc, folder, DiskFile::Gate)?;
+    let slots = opened(calls, alloc, folder, DiskFile::Slots)?;
+    Ok(FolderFiles {
+        journal,
+        gate,
+        slots,
+    })
+}
+
+// Whether a file is there that isn't empty.
+fn has_bytes<C: FolderCalls>(
+    calls: &mut C,
+    files: &FolderFiles<C::File>,
+) -> Result<bool, FolderFault>
+    ensures some { IfOk result (λ some. IsTrue some → HasBytes C.has_bytes files.now) }
+    ensures nothing { MakesNothing C.lacks calls.old calls.new }
+    ensures spares { Spares C.honest C.disk C.failures calls.old calls.new }
+    ensures cause { IfErr result (IsCounted (C.failures calls.old) (C.failures calls.new)) }
+{
+    let journal = is_full(calls, &files.journal)?;
+    let gate = is_full(calls, &files.gate)?;
+    let slots = is_full(calls, &files.slots)?;
+    Ok(journal || gate || slots)
+}
+
+// Whether a file is there and isn't empty.
+fn is_full<C: FolderCalls>(calls: &mut C, file: &Option<C::File>) -> Result<bool, FolderFault>
+    ensures some { IfOk result (λ some. IsTrue some → IsSomeAnd file.now C.has_bytes) }
+    ensures nothing { MakesNothing C.lacks calls.old calls.new }
+    ensures spares { Spares C.honest C.disk C.failures calls.old calls.new }
+    ensures cause { IfErr result (IsCounted (C.failures calls.old) (C.failures calls.new)) }
+{
+    match file {
+        Some(file) => {
+            let is_empty = calls.is_empty(file)?;
+            Ok(!is_empty)
+        }
+        None => Ok(false),
+    }
+}
+
+// A file that the entries of a log without sums are in isn't there.
+fn lacks_entries<F>(files: &FolderFiles<F>) -> bool
+    ensures lacks { IsTrue result → LacksEntries files.now }
+    ensures has { (IsTrue result → ⊥) → IsSome files.now.journal × IsSome files.now.gate }
+{
+    files.journal.is_none() || files.gate.is_none()
+}
+
+// The file, which is made where it is missing.
+fn there<C: FolderCalls>(
+    calls: &mut C,
+    alloc: Global,
+    folder: &str,
+    file: DiskFile,
+    found: Option<C::File>,
+) -> Result<C::File, FolderFault>
+    requires { IfSome found (λ there. C.is_at there (path_in folder.now file)) }
+    ensures at { IfOk result (λ there. C.is_at there (path_in folder.now file)) }
+    ensures nothing_else { MakesIn C.lacks folder.now calls.old calls.new }
+    ensures spares { Spares C.honest C.disk C.failures calls.old calls.new }
+    ensures cause { IfErr result (IsCounted (C.failures calls.old) (C.failures calls.new)) }
+{
+    match found {
+        Some(there) => Ok(there),
+        None => made(calls, alloc, folder, file),
+    }
+}
+
+// The journal, which is made and held where it is missing.
+fn held_journal<C: FolderCalls>(
+    calls: &mut C,
+    alloc: Global,
+    folder: &str,
+    found: Option<C::File>,
+) -> Result<C::File, FolderFault>
+    requires at { IfSome found (λ there. C.is_at there (path_in folder.now Journal)) }
+    requires held { IfSome found C.is_held }
+    ensures at { IfOk result (λ there. C.is_at there (path_in folder.now Journal)) }
+    ensures held { IfOk result C.is_held }
+    ensures nothing_else { MakesIn C.lacks folder.now calls.old calls.new }
+    ensures spares { Spares C.honest C.disk C.failures calls.old calls.new }
+    ensures cause { IfErr result (IsCounted (C.failures calls.old) (C.failures calls.new)) }
+{
+    match found {
+        Some(there) => Ok(there),
+        None => {
+            let file = made(calls, alloc, folder, DiskFile::Journal)?;
+            calls.hold(&file)?;
+            Ok(file)
+        }
+    }
+}
+
+// Makes the folder where it is missing. Its name lasts once the folder above is synced.
+fn make_missing<C: FolderCalls>(calls: &mut C, folder: &str) -> Result<(), FolderFault>
+    ensures nothing_else { MakesOnly C.lacks folder.now calls.old calls.new }
+    ensures spares { Spares C.honest C.disk C.failures calls.old calls.new }
+    ensures cause { IfErr result (IsCounted (C.failures calls.old) (C.failures calls.new)) }
+{
+    let is_made = calls.make_folder(folder)?;
+    if is_made {
+        return calls.sync_folder(above(folder));
+    }
+    Ok(())
+}
+
+// The same files, with those made that are missing, in a folder that is made where it is. The journal is held before
+// another is made, so that of two processes that begin at once one alone goes on.
+fn make_files<C: FolderCalls>(
+    calls: &mut C,
+    alloc: Global,
+    folder: &str,
+    files: FolderFiles<C::File>,
+) -> Result<FolderFiles<C::File>, FolderFault>
+    requires inside { AreIn C.is_at (C.lacks calls.old) folder.now files }
+    requires held { IsHeld C.is_held files }
+    ensures inside { IfOk result (AreIn C.is_at (C.lacks calls.new) folder.now) }
+    ensures whole { IfOk result HasFiles }
+    ensures held { IfOk result (IsHeld C.is_held) }
+    ensures nothing_else { MakesIn C.lacks folder.now calls.old calls.new }
+    ensures spares { Spares C.honest C.disk C.failures calls.old calls.new }
+    ensures cause { IfErr result (IsCounted (C.failures calls.old) (C.failures calls.new)) }
+{
+    let FolderFiles {
+        journal,
+        gate,
+        slots,
+    } = files;
+    let journal = held_journal(calls, alloc, folder, journal)?;
+    let gate = there(calls, alloc, folder, DiskFile::Gate, gate)?;
+    let slots = there(calls, alloc, folder, DiskFile::Slots, slots)?;
+    Ok(FolderFiles {
+        journal: Some(journal),
+        gate: Some(gate),
+        slots: Some(slots),
+    })
+}
+
+// The same, with the names made to last.
+fn make_all<C: FolderCalls>(
+    calls: &mut C,
+    alloc: Global,
+    folder: &str,
+    files: FolderFiles<C::File>,
+) -> Result<FolderFiles<C::File>, FolderFault>
+    requires inside { AreIn C.is_at (C.lacks calls.old) folder.now files }
+    requires held { IsHeld C.is_held files }
+    ensures inside { IfOk result (AreIn C.is_at (C.lacks calls.new) folder.now) }
+    ensures whole { IfOk result HasFiles }
+    ensures held { IfOk result (IsHeld C.is_held) }
+    ensures nothing_else { MakesIn C.lacks folder.now calls.old calls.new }
+    ensures spares { Spares C.honest C.disk C.failures calls.old calls.new }
+    ensures cause { IfErr result (IsCounted (C.failures calls.old) (C.failures calls.new)) }
+{
+    make_missing(calls, folder)?;
+    let files = make_files(calls, alloc, folder, files)?;
+    calls.sync_folder(folder)?;
+    Ok(files)
+}
+
+// The same files, with `slots`, which is made where it is missing. The name is made to last also where an earlier call
+// was stopped before it came to that.
+fn make_slots<C: FolderCalls>(
+    calls: &mut C,
+    alloc: Global,
+    folder: &str,
+    files: FolderFiles<C::File>,
+) -> Result<FolderFiles<C::File>, FolderFault>
+    requires inside { AreIn C.is_at (C.lacks calls.old) folder.now files }
+    requires held { IsHeld C.is_held files }
+    requires journal { IsSome files.journal }
+    requires gate { IsSome files.gate }
+    ensures inside { IfOk result (AreIn C.is_at (C.lacks calls.new) folder.now) }
+    ensures whole { IfOk result HasFiles }
+    ensures held { IfOk result (IsHeld C.is_held) }
+    ensures nothing_else { MakesIn C.lacks folder.now calls.old calls.new }
+    ensures spares { Spares C.honest C.disk C.failures calls.old calls.new }
+    ensures cause { IfErr result (IsCounted (C.failures calls.old) (C.failures calls.new)) }
+{
+    let FolderFiles {
+        journal,
+        gate,
+        slots,
+    } = files;
+    let slots = there(calls, alloc, folder, DiskFile::Slots, slots)?;
+    calls.sync_folder(folder)?;
+    Ok(FolderFiles {
+        journal,
+        gate,
+        slots: Some(slots),
+    })
 }

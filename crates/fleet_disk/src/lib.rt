@@ -7,6 +7,9 @@
 //! a host on the files of a folder (`HostCalls`), which are those of `StdFiles` or, for tests, of another disk
 //! (`OverDisk`).
 //!
+//! `open_folder`, `create_folder` and `complete_folder` lend the disk of a folder, by the single calls that a host has
+//! to open, make and close files (`FolderCalls`), which are those of `StdFolders`.
+//!
 //! Each call of a disk says what it does to what a read gives, to the images that a stop may leave now, and to those
 //! that a stop at some moment since a given clock might have left; a call is refused only where the device's count
 //! of failures rose.
@@ -18,6 +21,7 @@
 //! ```
 #![tactic(auto)]
 
+mod above;
 mod ahead;
 mod call;
 mod calls;
@@ -26,16 +30,25 @@ mod copy;
 mod disk;
 mod files;
 mod folder;
+mod folder_calls;
+mod folder_fault;
+mod folder_files;
 mod fuse;
 mod host;
 mod memory;
 mod over;
+mod std_folders;
 
 pub use call::{DiskCall, Pick};
 pub use calls::HostCalls;
 pub use disk::{Disk, DiskFault, DiskFile};
 pub use files::{HeldFiles, StdFiles};
+pub use folder::{complete_folder, create_folder, open_folder};
+pub use folder_calls::FolderCalls;
+pub use folder_fault::FolderFault;
+pub use folder_files::FolderFiles;
 pub use fuse::{Fuse, FuseDisk};
 pub use host::HostDisk;
 pub use memory::MemDisk;
 pub use over::OverDisk;
+pub use std_folders::StdFolders;

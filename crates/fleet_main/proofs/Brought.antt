@@ -26,7 +26,7 @@ use Rattle.fleet_shares.specs.Told.{head_at, stand, stands, AreTold, IsTold, Sam
 use Rattle.fleet_shares.specs.declared.stores.FleetStores.{FleetStores}
 use Rattle.fleet_main.specs.Bringing.{Came, Refused, Stood, loan_of, loans_of, standing, HasCome, HaveCome, AreBrought, AreToldOf, AreUntold, ComesAs, IsJudgedFrom, IsTelling, OfFleet, NotBrought}
 use Rattle.fleet_main.specs.Doing.{IsOpenedIn}
-use Rattle.fleet_main.specs.Lending.{IsGiven}
+use Rattle.fleet_disk.specs.Lending.{IsGiven}
 use Rattle.fleet_main.specs.Loans.{AreBack, Each, Loan, TakesBack, lent_by, only_of}
 use Rattle.fleet_main.specs.Opening.{NotOpened, NotOpenedIn, nameless, no_disk, no_memory, unopened}
 use Rattle.command_words.specs.Twice.{first_twice}

@@ -1,4 +1,3 @@
-pub mod Above
 pub mod Brought
 pub mod Doing
 pub mod Dumping

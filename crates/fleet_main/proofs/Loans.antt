@@ -1,7 +1,7 @@
 -- What came of the disks that folders lent, step by step.
 use Rattle.std.proofs.Common.{◌≡◌, ◌≢◌, ◌≤◌, ℕ, List, [], ◌∷◌, refl, sym, ◌∙◌, ap, subst, arith}
 use Rattle.fleet_disk.specs.declared.disk.Disk.{Ghosts}
-use Rattle.fleet_main.specs.Lending.{FolderDisk, Lent, There, IsGiven, OthersStay, AllStay}
+use Rattle.fleet_disk.specs.Lending.{FolderDisk, Lent, There, IsGiven, OthersStay, AllStay}
 use Rattle.fleet_main.specs.Loans.{AreBack, Each, IsLent, Loan, TakesBack, lent_by, only_of}
 use Rattle.fleet_main.specs.declared.lending.Folders.{Ghosts as FolderGhosts}
 

@@ -1,74 +1,90 @@
 -- Why no repository is begun or opened, by the fault of a folder and by that of a store, and what is left then.
-use Rattle.std.proofs.Common.{◌≡◌, ◌≢◌, ◌≤◌, ◌↔◌, ◌⊎◌, ℕ, List, [], inl, inr, refl, sym, subst, arith}
+use Rattle.std.proofs.Common.{◌≡◌, ◌≢◌, ◌≤◌, ◌↔◌, ◌⊎◌, ◌∙◌, ℕ, List, [], ap, inl, inr, refl, sym, subst, arith}
 use Rattle.fleet_disk.specs.Image.{Image, no_bytes}
 use Rattle.fleet_disk.specs.Rules.{LeavesOnly, Only, Rose}
 use Rattle.fleet_disk.specs.declared.disk.Disk.{Ghosts}
 use Rattle.gate_log.specs.Looks.{Looks}
+use Rattle.gate_log.specs.Log.{version_of}
 use Rattle.gate_log.specs.Standing.{HasNoEntry, IsBlank, IsEither, StandsAlike}
+use Rattle.gate_log.specs.Version.{HaveOneVersion, IsOf}
+use Rattle.gate_log.specs.declared.version.LogVersion.TheVariants.{Second}
+use Rattle.gate_log.specs.declared.fault.LogFault.TheVariants as log
 use Rattle.node_base.specs.declared.refusal.Refusal.{Refusal}
 use Rattle.node_base.specs.declared.refusal.Refusal.TheVariants as refusal
 use Rattle.repo_core.specs.Repository.{fresh}
 use Rattle.repo_store.specs.Journal.{beginning_of, IsDamaged, Keeps, KeepsAlike, ReopensTo}
-use Rattle.repo_store.specs.Words.{disk_of, identity_of, repository_of, revisions_of, HasFailed}
+use Rattle.repo_store.specs.Refusals.{log_refusal, store_refusal, IsCreateFault, IsOpenFault}
+use Rattle.repo_store.specs.Words.{disk_of, identity_of, log_of, repository_of, revisions_of, HasFailed}
+use Rattle.repo_store.specs.declared.fault.StoreFault.{StoreFault}
+use Rattle.repo_store.specs.declared.fault.StoreFault.TheVariants.{Repo, Log}
 use Rattle.repo_store.specs.declared.store.RepoStore.{RepoStore}
-use Rattle.store_engines.specs.Refusals.{IsCreateRefusal, IsOpenRefusal}
 use Rattle.fleet_main.specs.Doing.{IsBegunOn, IsKept, IsOpenedOn}
 use Rattle.fleet_main.specs.Loans.{AreBack, IsLent, Loan, TakesBack, only_of}
 use Rattle.fleet_main.specs.Opening.{IsUnbegun, IsUnopened, NotBegun, NotBegunIn, NotOpened, NotOpenedIn, WhyUnbegun, WhyUnopened, folder_refusal}
 use Rattle.fleet_main.specs.Opening.{begin_fails, begin_no_memory, there_already, host_fails, host_no_memory, not_on, open_fails, open_no_memory, no_entry, damaged, nameless, no_disk, no_memory, unopened}
 use Rattle.fleet_main.specs.declared.lending.Folders.{Ghosts as FolderGhosts}
-use Rattle.fleet_main.specs.declared.lending.FolderFault.{FolderFault}
-use Rattle.fleet_main.specs.declared.lending.FolderFault.TheVariants as fault
+use Rattle.fleet_disk.specs.declared.folder_fault.FolderFault.{FolderFault}
+use Rattle.fleet_disk.specs.declared.folder_fault.FolderFault.TheVariants as fault
 use Rattle.fleet_main.proofs.Loans.{one_back}
 
--- by the refusal of a creation
-why_unbegun : {D : Type 0} (G : Ghosts D) (honest : Type 0) (given back : D) (e : Refusal) → (honest → G.honest given) → IsCreateRefusal e → (e ≡ refusal.DeviceFailed → Rose (G.failures given) (G.failures back))
-    → (e ≡ refusal.OutOfMemory → back ≡ given) → (G.honest given → e ≡ refusal.ThereAlready → G.reads given ≢ no_bytes) → WhyUnbegun G honest given back e
-why_unbegun G honest given back e rules (inl h) device memory there = begin_fails h (device h)
-why_unbegun G honest given back e rules (inr (inl h)) device memory there = there_already h (λ o. there (rules o) h)
-why_unbegun G honest given back e rules (inr (inr h)) device memory there = begin_no_memory h (memory h)
+-- by the fault of a creation
+why_unbegun : {D : Type 0} (G : Ghosts D) (honest : Type 0) (given back : D) (f : StoreFault) (e : Refusal) → e ≡ store_refusal f → (honest → G.honest given) → IsCreateFault f
+    → (f ≡ Log log.DeviceFailed → Rose (G.failures given) (G.failures back)) → (f ≡ Log log.OutOfMemory → back ≡ given) → (G.honest given → f ≡ Log log.ThereAlready → G.reads given ≢ no_bytes) → WhyUnbegun G honest given back e
+why_unbegun G honest given back (Repo f) e is rules k device memory there = absurd k
+why_unbegun G honest given back (Log f) e is rules (inl h) device memory there = begin_fails (is ∙ ap log_refusal h) (device (ap Log h))
+why_unbegun G honest given back (Log f) e is rules (inr (inl h)) device memory there = there_already (is ∙ ap log_refusal h) (λ o. there (rules o) (ap Log h))
+why_unbegun G honest given back (Log f) e is rules (inr (inr h)) device memory there = begin_no_memory (is ∙ ap log_refusal h) (memory (ap Log h))
 
-pub unbegun : {D : Type 0} (G : Ghosts D) (honest : Type 0) (identity : List ℕ) (given back : D) (e : Refusal) → (honest → G.honest given) → IsCreateRefusal e → (e ≡ refusal.DeviceFailed → Rose (G.failures given) (G.failures back))
-    → (e ≡ refusal.OutOfMemory → back ≡ given) → (G.honest given → e ≡ refusal.ThereAlready → G.reads given ≢ no_bytes)
+pub unbegun : {D : Type 0} (G : Ghosts D) (honest : Type 0) (identity : List ℕ) (given back : D) (f : StoreFault) (e : Refusal) → e ≡ store_refusal f → (honest → G.honest given) → IsCreateFault f
+    → (f ≡ Log log.DeviceFailed → Rose (G.failures given) (G.failures back)) → (f ≡ Log log.OutOfMemory → back ≡ given) → (G.honest given → f ≡ Log log.ThereAlready → G.reads given ≢ no_bytes)
     → (G.honest given → G.reads given ≢ no_bytes → Looks G.honest G.reads G.may_leave G.clock G.left_since G.failures given back)
     → (G.honest given → Only no_bytes (G.may_leave given) → LeavesOnly G.clock G.left_since given back (λ image. IsBlank image ⊎ IsEither [] (beginning_of identity) image))
     → IsUnbegun G honest identity given back e
-unbegun G honest identity given back e rules no_other device memory there looks moment = record {
-  why = why_unbegun G honest given back e rules no_other device memory there;
+unbegun G honest identity given back f e is rules no_other device memory there looks moment = record {
+  why = why_unbegun G honest given back f e is rules no_other device memory there;
   stays = λ h. looks (rules h);
   any_moment = λ h. moment (rules h);
 }
 
--- by the refusal of an opening
-why_unopened : {D : Type 0} (G : Ghosts D) (honest : Type 0) (given back : D) (e : Refusal) → (honest → G.honest given) → IsOpenRefusal e → (e ≡ refusal.DeviceFailed → Rose (G.failures given) (G.failures back))
-    → (G.honest given → (entry : ℕ) → e ≡ refusal.Damaged entry → IsDamaged entry (G.reads given)) → (G.honest given → e ≡ refusal.NoRepository → HasNoEntry (G.reads given)) → WhyUnopened G honest given back e
-why_unopened G honest given back e rules (inl h) device bad missing = open_fails h (device h)
-why_unopened G honest given back e rules (inr (inl (entry, h))) device bad missing = damaged entry h (λ o. bad (rules o) entry h)
-why_unopened G honest given back e rules (inr (inr (inl h))) device bad missing = no_entry h (λ o. missing (rules o) h)
-why_unopened G honest given back e rules (inr (inr (inr h))) device bad missing = open_no_memory h
+-- by the fault of an opening
+why_unopened : {D : Type 0} (G : Ghosts D) (honest : Type 0) (given back : D) (f : StoreFault) (e : Refusal) → e ≡ store_refusal f → (honest → G.honest given) → IsOpenFault f
+    → (f ≡ Log log.DeviceFailed → Rose (G.failures given) (G.failures back)) → (G.honest given → (entry : ℕ) → f ≡ Log (log.Damaged entry) → IsDamaged entry (G.reads given))
+    → (G.honest given → f ≡ Log log.NoRepository → HasNoEntry (G.reads given)) → WhyUnopened G honest given back e
+why_unopened G honest given back (Repo f) e is rules k device bad missing = absurd k
+why_unopened G honest given back (Log log.DeviceFailed) e is rules k device bad missing = open_fails is (device refl)
+why_unopened G honest given back (Log (log.Damaged entry)) e is rules k device bad missing = damaged entry is (λ o. bad (rules o) entry refl)
+why_unopened G honest given back (Log log.NoRepository) e is rules k device bad missing = no_entry is (λ o. missing (rules o) refl)
+why_unopened G honest given back (Log log.OutOfMemory) e is rules k device bad missing = open_no_memory is
+why_unopened G honest given back (Log log.Failed) e is rules k device bad missing = absurd k
+why_unopened G honest given back (Log log.ThereAlready) e is rules k device bad missing = absurd k
+why_unopened G honest given back (Log log.LogFull) e is rules k device bad missing = absurd k
 
-unless_failed : (e : Refusal) (P : Type 0) → (e ≡ refusal.DeviceFailed) ⊎ P → e ≢ refusal.DeviceFailed → P
-unless_failed e P (inl h) other = absurd (other h)
-unless_failed e P (inr p) other = p
+unless_failed : (f : StoreFault) (e : Refusal) (P : Type 0) → e ≡ store_refusal f → (f ≡ Log log.DeviceFailed) ⊎ P → e ≢ refusal.DeviceFailed → P
+unless_failed f e P is (inl h) other = absurd (other (is ∙ ap store_refusal h))
+unless_failed f e P is (inr p) other = p
 
-pub is_unopened : {D : Type 0} (G : Ghosts D) (honest : Type 0) (given back : D) (e : Refusal) → (honest → G.honest given) → IsOpenRefusal e → (e ≡ refusal.DeviceFailed → Rose (G.failures given) (G.failures back))
-    → (G.honest given → (entry : ℕ) → e ≡ refusal.Damaged entry → IsDamaged entry (G.reads given)) → (G.honest given → e ≡ refusal.NoRepository → HasNoEntry (G.reads given))
-    → (G.honest given → (e ≡ refusal.DeviceFailed) ⊎ ((image : Image) → G.may_leave back image → (image ≡ G.reads given) ⊎ StandsAlike (G.reads given) image))
-    → (G.honest given → LeavesOnly G.clock G.left_since given back (λ image. G.may_leave given image ⊎ KeepsAlike (G.reads given) image)) → IsUnopened G honest given back e
-is_unopened G honest given back e rules no_other device bad missing kept moment = record {
-  why = why_unopened G honest given back e rules no_other device bad missing;
-  left = λ h other. unless_failed e _ (kept (rules h)) other;
+pub is_unopened : {D : Type 0} (G : Ghosts D) (honest : Type 0) (given back : D) (f : StoreFault) (e : Refusal) → e ≡ store_refusal f → (honest → G.honest given) → IsOpenFault f
+    → (f ≡ Log log.DeviceFailed → Rose (G.failures given) (G.failures back)) → (G.honest given → (entry : ℕ) → f ≡ Log (log.Damaged entry) → IsDamaged entry (G.reads given))
+    → (G.honest given → f ≡ Log log.NoRepository → HasNoEntry (G.reads given))
+    → (G.honest given → (f ≡ Log log.DeviceFailed) ⊎ ((image : Image) → G.may_leave back image → (image ≡ G.reads given) ⊎ StandsAlike (G.reads given) image))
+    → (G.honest given → LeavesOnly G.clock G.left_since given back (λ image. G.may_leave given image ⊎ KeepsAlike (G.reads given) image))
+    → (G.honest given → LeavesOnly G.clock G.left_since given back (λ image. G.may_leave given image ⊎ HaveOneVersion (G.reads given) image)) → IsUnopened G honest given back e
+is_unopened G honest given back f e is rules no_other device bad missing kept moment stays = record {
+  why = why_unopened G honest given back f e is rules no_other device bad missing;
+  left = λ h other. unless_failed f e _ is (kept (rules h)) other;
   any_moment = λ h. moment (rules h);
+  version_stays = λ h. stays (rules h);
 }
 
 -- a store that is begun
-pub begun_on : {D : Type 0} (G : Ghosts D) (honest : Type 0) (identity : List ℕ) (given : D) (store : RepoStore D G) → (honest → G.honest given) → (G.honest given → G.reads given ≡ no_bytes) → repository_of store ≡ fresh identity
+pub begun_on : {D : Type 0} (G : Ghosts D) (honest : Type 0) (identity : List ℕ) (given : D) (store : RepoStore D G) → (honest → G.honest given) → (G.honest given → G.reads given ≡ no_bytes) → repository_of store ≡ fresh identity → version_of (log_of store) ≡ Second
     → (G.honest given ↔ G.honest (disk_of store)) → (G.honest given → (image : Image) → G.may_leave (disk_of store) image → Keeps (fresh identity) image)
     → (G.honest given → Only no_bytes (G.may_leave given) → LeavesOnly G.clock G.left_since given (disk_of store) (λ image. IsBlank image ⊎ IsEither [] (beginning_of identity) image)) → IsBegunOn G honest identity given store
-begun_on G honest identity given store rules empty made both durable moment = record {
+begun_on G honest identity given store rules empty made version both durable moment = record {
   sound = rules;
   empty = λ h. empty (rules h);
   made = made;
+  version = version;
   kept = λ h. (both.0 (rules h), λ left may. subst (λ r. Keeps r left) (sym made) (durable (rules h) left may));
   any_moment = λ h. moment (rules h);
 }
@@ -76,14 +92,17 @@ begun_on G honest identity given store rules empty made both durable moment = re
 -- a store that is opened
 pub opened_on : {D : Type 0} (G : Ghosts D) (honest : Type 0) (given : D) (store : RepoStore D G) → (honest → G.honest given) → (G.honest given → ReopensTo (identity_of store) (revisions_of store) (G.reads given))
     → (G.honest given → Keeps (repository_of store) (G.reads given)) → ¬ HasFailed store → (G.honest given ↔ G.honest (disk_of store))
-    → (G.honest given → LeavesOnly G.clock G.left_since given (disk_of store) (λ image. G.may_leave given image ⊎ KeepsAlike (G.reads given) image)) → IsOpenedOn G honest given store
-opened_on G honest given store rules stands keeps working both moment = record {
+    → (G.honest given → LeavesOnly G.clock G.left_since given (disk_of store) (λ image. G.may_leave given image ⊎ KeepsAlike (G.reads given) image))
+    → (G.honest given → IsOf (version_of (log_of store)) (G.reads given)) → (G.honest given → LeavesOnly G.clock G.left_since given (disk_of store) (λ image. G.may_leave given image ⊎ HaveOneVersion (G.reads given) image)) → IsOpenedOn G honest given store
+opened_on G honest given store rules stands keeps working both moment version stays = record {
   stands = λ h. stands (rules h);
   keeps = λ h. keeps (rules h);
   sound = rules;
   rules = λ h. both.0 (rules h);
   working = working;
   any_moment = λ h. moment (rules h);
+  version = λ h. version (rules h);
+  version_stays = λ h. stays (rules h);
 }
 
 -- a smaller premise
@@ -95,6 +114,8 @@ opened_under G honest less given store so o = record {
   rules = λ h. o.rules (so h);
   working = o.working;
   any_moment = λ h. o.any_moment (so h);
+  version = λ h. o.version (so h);
+  version_stays = λ h. o.version_stays (so h);
 }
 
 why_under : {D : Type 0} (G : Ghosts D) (honest less : Type 0) (given back : D) (e : Refusal) → (less → honest) → WhyUnopened G honest given back e → WhyUnopened G less given back e
@@ -108,6 +129,7 @@ unopened_under G honest less given back e so u = record {
   why = why_under G honest less given back e so u.why;
   left = λ h. u.left (so h);
   any_moment = λ h. u.any_moment (so h);
+  version_stays = λ h. u.version_stays (so h);
 }
 
 pub not_opened_under : {D : Type 0} (G : Ghosts D) (honest less fails more : Type 0) (folder : List ℕ) (loans : List (Loan D)) (e : Refusal) → (less → honest) → (fails → more) → NotOpened G honest fails folder loans e

@@ -8,14 +8,17 @@ use Rattle.dump_text.specs.Streams.{dump_by, records_of}
 use Rattle.fleet_disk.specs.Image.{Image, no_bytes}
 use Rattle.fleet_disk.specs.Rules.{LeavesOnly, Only, Rose}
 use Rattle.fleet_disk.specs.declared.disk.Disk.{Ghosts}
+use Rattle.gate_log.specs.Log.{version_of}
 use Rattle.gate_log.specs.Standing.{IsBlank, IsEither}
+use Rattle.gate_log.specs.Version.{HaveOneVersion, IsOf}
+use Rattle.gate_log.specs.declared.version.LogVersion.TheVariants.{Second}
 use Rattle.node_base.specs.Path.{Path}
 use Rattle.node_base.specs.PathText.{path_read}
 use Rattle.node_base.specs.declared.refusal.Refusal.{Refusal}
 use Rattle.node_base.specs.declared.refusal.Refusal.TheVariants as refusal
 use Rattle.repo_core.specs.Repository.{Repository, Revision, fresh, head_of, props_at}
 use Rattle.repo_store.specs.Journal.{beginning_of, Keeps, KeepsAlike, KeepsOr, ReopensTo}
-use Rattle.repo_store.specs.Words.{disk_of, doubt_of, identity_of, repository_of, revisions_of, HasFailed}
+use Rattle.repo_store.specs.Words.{disk_of, doubt_of, identity_of, log_of, repository_of, revisions_of, HasFailed}
 use Rattle.repo_store.specs.declared.store.RepoStore.{RepoStore}
 use Rattle.fleet_engines.specs.declared.product.Product.TheVariants as product
 use Rattle.fleet_engines.specs.Grouping.{is_no_identity}
@@ -56,6 +59,9 @@ pub record IsOpenedOn {D : Type 0} (G : Ghosts D) (honest : Type 0) (given : D) 
   pub working : ¬ HasFailed store
   -- a stop at any moment of the opening leaves what it could leave before, or what keeps all that the files keep
   pub any_moment : honest → LeavesOnly G.clock G.left_since given (disk_of store) (λ image. G.may_leave given image ⊎ KeepsAlike (G.reads given) image)
+  -- the log is of the version that the files are of, and no other comes up
+  pub version : honest → IsOf (version_of (log_of store)) (G.reads given)
+  pub version_stays : honest → LeavesOnly G.clock G.left_since given (disk_of store) (λ image. G.may_leave given image ⊎ HaveOneVersion (G.reads given) image)
 
 -- a folder's disk is lent, and a store is opened on it
 abbrev pub IsOpenedIn : {F D : Type 0} (G : Ghosts D) → FolderGhosts F D → F → F → List ℕ → RepoStore D G → Type 0
@@ -83,6 +89,7 @@ pub record IsBegunOn {D : Type 0} (G : Ghosts D) (honest : Type 0) (identity : L
   pub sound : honest → G.honest given
   pub empty : honest → G.reads given ≡ no_bytes
   pub made : repository_of store ≡ fresh identity
+  pub version : version_of (log_of store) ≡ Second
   pub kept : IsKept honest store
   -- a stop at any moment leaves no entry, or one that begins the repository
   pub any_moment : honest → Only no_bytes (G.may_leave given) → LeavesOnly G.clock G.left_since given (disk_of store) (λ image. IsBlank image ⊎ IsEither [] (beginning_of identity) image)

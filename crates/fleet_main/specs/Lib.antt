@@ -1,10 +1,9 @@
-pub mod Above
 pub mod Bringing
 pub mod Doing
 pub mod Host
 pub mod Laws
-pub mod Lending
 pub mod Loans
+pub mod Making
 pub mod Opening
 pub mod Pulling
 pub mod Serving

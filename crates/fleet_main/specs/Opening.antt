@@ -5,13 +5,14 @@ use Rattle.fleet_disk.specs.Rules.{LeavesOnly, Only, Rose}
 use Rattle.fleet_disk.specs.declared.disk.Disk.{Ghosts}
 use Rattle.gate_log.specs.Looks.{Looks}
 use Rattle.gate_log.specs.Standing.{HasNoEntry, IsBlank, IsEither, StandsAlike}
+use Rattle.gate_log.specs.Version.{HaveOneVersion}
 use Rattle.node_base.specs.declared.refusal.Refusal.{Refusal}
 use Rattle.node_base.specs.declared.refusal.Refusal.TheVariants as refusal
 use Rattle.repo_store.specs.Journal.{beginning_of, IsDamaged, KeepsAlike}
 use Rattle.fleet_main.specs.Loans.{AreBack, Loan, only_of}
 use Rattle.fleet_main.specs.declared.lending.Folders.{Ghosts as FolderGhosts}
-use Rattle.fleet_main.specs.declared.lending.FolderFault.{FolderFault}
-use Rattle.fleet_main.specs.declared.lending.FolderFault.TheVariants as fault
+use Rattle.fleet_disk.specs.declared.folder_fault.FolderFault.{FolderFault}
+use Rattle.fleet_disk.specs.declared.folder_fault.FolderFault.TheVariants as fault
 
 abbrev pub folder_refusal : FolderFault → Refusal
 folder_refusal fault.DeviceFailed = refusal.DeviceFailed
@@ -47,6 +48,8 @@ pub record IsUnopened {D : Type 0} (G : Ghosts D) (honest : Type 0) (given back 
   pub why : WhyUnopened G honest given back e
   pub left : honest → e ≢ refusal.DeviceFailed → (image : Image) → G.may_leave back image → (image ≡ G.reads given) ⊎ StandsAlike (G.reads given) image
   pub any_moment : honest → LeavesOnly G.clock G.left_since given back (λ image. G.may_leave given image ⊎ KeepsAlike (G.reads given) image)
+  -- and no other version of the log comes up
+  pub version_stays : honest → LeavesOnly G.clock G.left_since given back (λ image. G.may_leave given image ⊎ HaveOneVersion (G.reads given) image)
 
 -- no repository is opened in a folder: it has no name; or no disk is lent, since the host failed or memory ran out; or none is opened on its disk
 pub data NotOpened {D : Type 0} (G : Ghosts D) (honest fails : Type 0) (folder : List ℕ) (loans : List (Loan D)) (e : Refusal) : Type 0 where

@@ -10,7 +10,7 @@ use Rattle.sockets.specs.declared.troubles.Trouble.{Trouble}
 use Rattle.sockets.specs.declared.troubles.Trouble.TheVariants as trouble
 use Rattle.svn_ends.specs.Served.{IsOfStore}
 use Rattle.fleet_main.specs.Doing.{IsKept, IsOpenedOn}
-use Rattle.fleet_main.specs.Lending.{There, IsGiven, OthersStay}
+use Rattle.fleet_disk.specs.Lending.{There, IsGiven, OthersStay}
 use Rattle.fleet_main.specs.Opening.{NotOpenedIn}
 use Rattle.command_words.specs.declared.command_line.Service.{Service}
 use Rattle.fleet_main.specs.declared.lending.Folders.{Ghosts as FolderGhosts}

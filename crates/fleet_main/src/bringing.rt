@@ -4,6 +4,7 @@ ghost use Rattle.std.specs.Prelude.{string_bytes, vec_capacity, vec_len, IfErr, 
 ghost use Rattle.std.specs.Io.KnownBytes.{Appends};
 ghost use Rattle.byte_streams.specs.Causes.{Rose};
 ghost use Rattle.fleet_disk.specs.Image.{Image};
+ghost use Rattle.fleet_disk.specs.Lending.{MakesNothing};
 ghost use Rattle.node_base.specs.declared.refusal.Refusal.{Refusal as RefusalOf};
 ghost use Rattle.repo_store.specs.Journal.{Keeps};
 ghost use Rattle.repo_store.specs.Words.{disk_of, repository_of, HasFailed, IsKept as StoreIsKept};
@@ -54,6 +55,7 @@ fn slot_closed<F: Folders>(
         folder.now (disk_of s) × StoreIsKept s) }
     ensures others { (other : ℕ) → other ≢ slot → store_at result other ≡ store_at stores other }
     ensures master { result.master ≡ stores.master }
+    ensures nothing { MakesNothing F.lacks folders.old folders.new }
 {
     let mut stores = stores;
     match stores.take(slot) {
@@ -82,8 +84,9 @@ where
     requires few { vec_len refusals + length names.now ≤ 4 }
     requires room { vec_len refusals + length names.now ≤ vec_capacity refusals }
     requires apart { first_twice (map string_bytes names.now) ≡ None }
-    ensures { AreBrought F.Place.Disk F.Folders folders.old folders.new (map string_bytes names.now) refusals.items
-        stores result.0 result.1 }
+    ensures brought { AreBrought F.Place.Disk F.Folders folders.old folders.new (map string_bytes names.now)
+        refusals.items stores result.0 result.1 }
+    ensures nothing { MakesNothing F.lacks folders.old folders.new }
 {
     let Some((name, names)) = names.split_first() else {
         return run_fleet(rt, alloc, stores, refusals, workers, Unheld);
@@ -123,6 +126,7 @@ where
         (map string_bytes mirrors.now) (AreToldOf F.Place.Disk told.items)) }
     ensures refused { IfErr result (NotBrought F.Place.Disk F.Folders folders.old folders.new master.now
         (map string_bytes mirrors.now)) }
+    ensures nothing { MakesNothing F.lacks folders.old folders.new }
 {
     let Ok(refusals) = Vec::with_capacity(alloc, MIRRORS) else {
         return Err(Refusal::OutOfMemory);
@@ -167,6 +171,7 @@ where
     ensures refused { IfErr result (NotFleetRun F.Place.Disk F.Folders folders.old folders.new fleet.now
         (O.contents output.old) (O.failures output.old) (O.contents output.new) (O.failures output.new)) }
     ensures unfailed { OnOk result (O.failures output.new ≡ O.failures output.old) }
+    ensures nothing { MakesNothing F.lacks folders.old folders.new }
 {
     let master = fleet.master.as_str();
     let mirrors = fleet.mirrors.as_slice();
@@ -201,6 +206,7 @@ where
         (O.failures result.0)) }
     ensures handed { OnOk result.1 (O.is_handed_on result.0) }
     ensures unfailed { OnOk result.1 (O.failures result.0 ≡ O.failures output) }
+    ensures nothing { MakesNothing F.lacks folders.old folders.new }
 {
     let mut output = output;
     let told = fleet_told(rt, alloc, folders, fleet, &mut output);
@@ -236,6 +242,7 @@ pub fn fleet<
 where
     F::Place: Send + 'static,
     ensures status { (result.0 ≡ 0) ⊎ (result.0 ≡ 1) }
+    ensures nothing { MakesNothing F.lacks folders.old folders.new }
     ensures done { result.0 ≡ 0 → HandsOn (IsFleetRun F.Place.Disk F.Folders folders.old folders.new fleet.now
         (O.contents output) true) (O.contents result.1) }
     ensures handed { result.0 ≡ 0 → O.is_handed_on result.1 }

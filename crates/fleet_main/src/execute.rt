@@ -12,7 +12,9 @@ ghost use Rattle.fleet_main.specs.Doing.{IsNotDone, IsToldOf, IsBrought, NoSourc
 ghost use Rattle.fleet_main.specs.Doing.{NotKept, NotLoadedFrom, NotToldOf, NotBrought, NotBroughtOn, OfBoth};
 ghost use Rattle.fleet_main.specs.Doing.{OfStanding, OfUpgrade, OverSource, UnopenedBoth, UnopenedOr};
 ghost use Rattle.fleet_main.specs.Doing.{BroughtOn, IsHeadOf, NoHeadOf, UnopenedOrUpgrade};
+ghost use Rattle.fleet_disk.specs.Lending.{MakesIn, MakesNothing};
 ghost use Rattle.fleet_main.specs.Loans.{AreBack};
+ghost use Rattle.fleet_main.specs.Making.{MakesFor};
 ghost use Rattle.fleet_main.specs.Opening.{NotBegunIn};
 ghost use Rattle.store_engines.specs.Upgrades.{IsUpgraded, NotUpgraded};
 
@@ -46,6 +48,7 @@ fn create<F: Folders>(
     ensures done { OnOk result (IsBegun F.Place.Disk F.Folders folders.old folders.new folder.now identity) }
     ensures refused { IfErr result (NotBegunIn F.Place.Disk F.Folders folders.old folders.new folder.now identity) }
     ensures no_peer { IfErr result (λ e. e ≡ Refusal.PeerFailed → ⊥) }
+    ensures nothing_else { MakesIn F.lacks folder.now folders.old folders.new }
 {
     match created(alloc, folders, folder, identity) {
         Ok(begun) => {
@@ -72,6 +75,7 @@ fn load<F: Folders, I: Input, O: Output + Drop>(
         (NotLoadedFrom deltas (F.honest folders.old) (I.remaining input.old) (O.contents output.old)
         (O.contents output.new) (Rose (O.failures output.old) (O.failures output.new)) e)) }
     ensures peer { BothCounted result (counts I.failures I.reads input.old input.new) (O.failures output.old) (O.failures output.new) }
+    ensures nothing { MakesNothing F.lacks folders.old folders.new }
 {
     match opened(alloc, folders, folder) {
         Ok(store) => {
@@ -98,6 +102,7 @@ fn dump<F: Folders, O: Output + Drop>(
         (NotDumped (F.honest folders.old) range (O.contents output.old) (O.contents output.new)
         (Rose (O.failures output.old) (O.failures output.new)) e)) }
     ensures peer { Counted result (O.failures output.old) (O.failures output.new) }
+    ensures nothing { MakesNothing F.lacks folders.old folders.new }
 {
     match opened(alloc, folders, folder) {
         Ok(store) => {
@@ -121,6 +126,7 @@ fn head<F: Folders, O: Output + Drop>(
         (O.contents output.old) (O.contents output.new) e
         (NoHeadOf (F.honest folders.old) (Rose (O.failures output.old) (O.failures output.new)) e)) }
     ensures peer { Counted result (O.failures output.old) (O.failures output.new) }
+    ensures nothing { MakesNothing F.lacks folders.old folders.new }
 {
     match opened(alloc, folders, folder) {
         Ok(store) => {
@@ -149,6 +155,7 @@ fn make_dir<F: Folders, O: Output + Drop>(
         (NotCommittedTo (F.honest folders.old) path.now message.now moment (O.contents output.old)
         (O.contents output.new) (Rose (O.failures output.old) (O.failures output.new)) e)) }
     ensures peer { Counted result (O.failures output.old) (O.failures output.new) }
+    ensures nothing { MakesNothing F.lacks folders.old folders.new }
 {
     match opened(alloc, folders, folder) {
         Ok(store) => {
@@ -174,6 +181,7 @@ fn upgrade<F: Folders, O: Output + Drop>(
         (NotUpgraded (O.contents output.old) (O.contents output.new)
         (Rose (O.failures output.old) (O.failures output.new)) e)) }
     ensures peer { Counted result (O.failures output.old) (O.failures output.new) }
+    ensures nothing_else { MakesIn F.lacks folder.now folders.old folders.new }
 {
     match opened_to_upgrade(alloc, folders, folder) {
         Ok(store) => {
@@ -198,6 +206,7 @@ fn info<F: Folders, O: Output + Drop>(
         (NotToldOf (F.honest folders.old) (O.contents output.old) (O.contents output.new)
         (Rose (O.failures output.old) (O.failures output.new)) e)) }
     ensures peer { Counted result (O.failures output.old) (O.failures output.new) }
+    ensures nothing { MakesNothing F.lacks folders.old folders.new }
 {
     match opened(alloc, folders, mirror) {
         Ok(store) => {
@@ -224,6 +233,7 @@ fn mirrored<F: Folders, O: Output + Drop>(
         source.now (O.contents output) (O.contents result.0) e
         (NotBrought work (O.contents output) (O.contents result.0) (Rose (O.failures output) (O.failures result.0)) e)) }
     ensures unfailed { OnOk result.1 (O.failures result.0 ≡ O.failures output) }
+    ensures nothing { MakesNothing F.lacks folders.old folders.new }
     ensures peer { IfErr result.1 (λ e. e ≡ Refusal.PeerFailed → Rose (O.failures output) (O.failures result.0)) }
 {
     match opened(alloc, folders, mirror) {
@@ -252,6 +262,7 @@ fn mirrored_from<F: Folders, O: Output + Drop>(
         (NotBrought work (O.contents output) (O.contents result.1) (Rose (O.failures output) (O.failures result.1)) e)) }
     ensures rules { ¬ HasFailed mirror → F.Place.honest (disk_of mirror) → F.Place.honest (disk_of result.0) }
     ensures unfailed { OnOk result.2 (O.failures result.1 ≡ O.failures output) }
+    ensures nothing { MakesNothing F.lacks folders.old folders.new }
     ensures peer { IfErr result.2 (λ e. e ≡ Refusal.PeerFailed → Rose (O.failures output) (O.failures result.1)) }
 {
     match opened(alloc, folders, source) {
@@ -299,6 +310,7 @@ fn initialize<F: Folders, O: Output + Drop>(
         (NotBrought (work_is.Initialize source.now) (O.contents output) (O.contents result.0)
         (Rose (O.failures output) (O.failures result.0)) e)) }
     ensures unfailed { OnOk result.1 (O.failures result.0 ≡ O.failures output) }
+    ensures nothing { MakesNothing F.lacks folders.old folders.new }
     ensures peer { IfErr result.1 (λ e. e ≡ Refusal.PeerFailed → Rose (O.failures output) (O.failures result.0)) }
 {
     match url_of(alloc, source) {
@@ -346,6 +358,7 @@ fn run_one<F: Folders, I: Input, O: Output + Drop>(
         (I.remaining input.old) (O.contents output) (O.failures output) (O.contents result.0)
         (O.failures result.0)) }
     ensures unfailed { OnOk result.1 ((I.failures input.new ≡ I.failures input.old) × (O.failures result.0 ≡ O.failures output)) }
+    ensures made { MakesFor F.lacks command folders.old folders.new }
     ensures peer { IfErr result.1 (λ e. e ≡ Refusal.PeerFailed → Fails (counts I.failures I.reads input.old input.new)
         ⊎ Rose (O.failures output) (O.failures result.0)) }
 {
@@ -453,6 +466,7 @@ fn run_flushed<F: Folders, I: Input, O: Output + Drop>(
         (O.failures result.0)) }
     ensures handed { OnOk result.1 (O.is_handed_on result.0) }
     ensures unfailed { OnOk result.1 ((I.failures input.new ≡ I.failures input.old) × (O.failures result.0 ≡ O.failures output)) }
+    ensures made { MakesFor F.lacks command folders.old folders.new }
     ensures peer { IfErr result.1 (λ e. e ≡ Refusal.PeerFailed → Fails (counts I.failures I.reads input.old input.new)
         ⊎ Rose (O.failures output) (O.failures result.0)) }
 {
@@ -481,6 +495,7 @@ pub fn run<F: Folders, I: Input, O: Output + Drop, E: Output>(
     errors: &mut E,
 ) -> (u8, O)
     ensures status { (result.0 ≡ 0) ⊎ (result.0 ≡ 1) }
+    ensures made { MakesFor F.lacks command folders.old folders.new }
     ensures done { result.0 ≡ 0 → HandsOn (IsDone F.Place.Disk F.Folders folders.old folders.new command
         (I.remaining input.old) (O.contents output)) (O.contents result.1) }
     ensures handed { result.0 ≡ 0 → O.is_handed_on result.1 }

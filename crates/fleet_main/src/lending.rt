@@ -1,19 +1,10 @@
 //! Folders that lend their disks and take them back.
-ghost use Rattle.std.specs.Prelude.{◌≡◌, ◌≢◌, ◌≤◌, ℕ, List, IfOk, IfErr, OnOk, OnErr};
-ghost use Rattle.fleet_disk.specs.Rules.{Rose};
-ghost use Rattle.fleet_main.specs.Lending.{AllStay, FolderDisk, IsGiven, Lent, OthersStay, There};
+ghost use Rattle.std.specs.Prelude.{◌≡◌, ◌≤◌, ℕ, List, IfOk, IfErr, OnErr};
+ghost use Rattle.fleet_disk.specs.Lending.{FolderDisk, IsCounted, Lends, MakesIn, MakesNothing};
+ghost use Rattle.fleet_disk.specs.Lending.{OthersStay, Spares, Lent, There};
 
-use fleet_disk::Disk;
+use fleet_disk::{Disk, FolderFault};
 use std::alloc::Global;
-
-/// Why a folder lends no disk.
-#[derive(Clone, Copy, PartialEq, Eq)]
-pub enum FolderFault {
-    /// The host failed (31).
-    DeviceFailed,
-    /// Memory ran out (70).
-    OutOfMemory,
-}
 
 /// Folders, each of which lends its disk and takes it back.
 ///
@@ -30,46 +21,37 @@ pub trait Folders {
     /// What a folder has for a disk.
     ghost disk: { Self → List ℕ → FolderDisk Self.Place };
 
+    /// Nothing is at a path.
+    ghost lacks: { Self → List ℕ → Type 0 };
+
     /// How often the host has failed.
     ghost failures: { Self → ℕ };
 
     /// Lends the disk of a folder as it stands; nothing is made. A disk that is lent isn't lent again.
     fn open(&mut self, alloc: Global, folder: &str) -> Result<Self::Place, FolderFault>
-        ensures given { honest self.old → IfOk result (IsGiven Self.Place.Disk (disk self.old folder.now)) }
-        ensures rules { honest self.old → IfOk result (λ place. Self.Place.honest place) }
-        ensures lent { honest self.old → OnOk result (disk self.new folder.now ≡ Lent) }
-        ensures others { honest self.old → OnOk result (OthersStay folder.now (disk self.old) (disk self.new)) }
-        ensures same { honest self.old → OnErr result (AllStay (disk self.old) (disk self.new)) }
-        ensures honest { honest self.old → honest self.new }
+        ensures lends { IfOk result (Lends Self.Place.Disk honest disk self.old self.new folder.now) }
+        ensures nothing { MakesNothing lacks self.old self.new }
+        ensures same { OnErr result (Spares honest disk failures self.old self.new) }
         ensures later { failures self.old ≤ failures self.new }
-        ensures cause { IfErr result (λ e. e ≡ FolderFault.DeviceFailed
-            → Rose (failures self.old) (failures self.new)) };
+        ensures cause { IfErr result (IsCounted (failures self.old) (failures self.new)) };
 
     /// The same of a folder whose entries are to be given their sums: what they will be in is made beside the files that
     /// have them, and nothing where these aren't there. So the disk is the one that stands there.
     fn complete(&mut self, alloc: Global, folder: &str) -> Result<Self::Place, FolderFault>
-        ensures given { honest self.old → IfOk result (IsGiven Self.Place.Disk (disk self.old folder.now)) }
-        ensures rules { honest self.old → IfOk result (λ place. Self.Place.honest place) }
-        ensures lent { honest self.old → OnOk result (disk self.new folder.now ≡ Lent) }
-        ensures others { honest self.old → OnOk result (OthersStay folder.now (disk self.old) (disk self.new)) }
-        ensures same { honest self.old → OnErr result (AllStay (disk self.old) (disk self.new)) }
-        ensures honest { honest self.old → honest self.new }
+        ensures lends { IfOk result (Lends Self.Place.Disk honest disk self.old self.new folder.now) }
+        ensures nothing_else { MakesIn lacks folder.now self.old self.new }
+        ensures same { OnErr result (Spares honest disk failures self.old self.new) }
         ensures later { failures self.old ≤ failures self.new }
-        ensures cause { IfErr result (λ e. e ≡ FolderFault.DeviceFailed
-            → Rose (failures self.old) (failures self.new)) };
+        ensures cause { IfErr result (IsCounted (failures self.old) (failures self.new)) };
 
     /// The same of a folder that is made where it is missing, as its files are where they are empty; the folder above
     /// has to be there.
     fn create(&mut self, alloc: Global, folder: &str) -> Result<Self::Place, FolderFault>
-        ensures given { honest self.old → IfOk result (IsGiven Self.Place.Disk (disk self.old folder.now)) }
-        ensures rules { honest self.old → IfOk result (λ place. Self.Place.honest place) }
-        ensures lent { honest self.old → OnOk result (disk self.new folder.now ≡ Lent) }
-        ensures others { honest self.old → OnOk result (OthersStay folder.now (disk self.old) (disk self.new)) }
-        ensures same { honest self.old → OnErr result (AllStay (disk self.old) (disk self.new)) }
-        ensures honest { honest self.old → honest self.new }
+        ensures lends { IfOk result (Lends Self.Place.Disk honest disk self.old self.new folder.now) }
+        ensures nothing_else { MakesIn lacks folder.now self.old self.new }
+        ensures same { OnErr result (Spares honest disk failures self.old self.new) }
         ensures later { failures self.old ≤ failures self.new }
-        ensures cause { IfErr result (λ e. e ≡ FolderFault.DeviceFailed
-            → Rose (failures self.old) (failures self.new)) };
+        ensures cause { IfErr result (IsCounted (failures self.old) (failures self.new)) };
 
     /// Takes the disk of a folder back.
     fn close(&mut self, folder: &str, place: Self::Place)
@@ -77,6 +59,7 @@ pub trait Folders {
         ensures others { honest self.old → disk self.old folder.now ≡ Lent
             → OthersStay folder.now (disk self.old) (disk self.new) }
         ensures honest { honest self.old → Self.Place.honest place → honest self.new }
+        ensures nothing { MakesNothing lacks self.old self.new }
         ensures later { failures self.old ≤ failures self.new };
 
     /// The disks that are there keep the rules.

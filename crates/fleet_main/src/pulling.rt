@@ -1,5 +1,6 @@
 //! A mirror over a source that a server has.
 ghost use Rattle.std.specs.Prelude.{◌≡◌, ◌⊎◌, IfErr, IfOk, OnOk};
+ghost use Rattle.fleet_disk.specs.Lending.{MakesNothing};
 ghost use Rattle.repo_store.specs.Words.{disk_of, HasFailed};
 ghost use Rattle.std.specs.Io.KnownBytes.{Appends};
 ghost use Rattle.byte_streams.specs.Causes.{Rose};
@@ -80,6 +81,7 @@ fn pull_folder<R: Net<Stream = TcpStream>, F: Folders, O: Output + Drop>(
         (NotPulledOver (F.honest folders.old) (IsWorked work) (O.contents output) (O.contents result.0)
         (Rose (O.failures output) (O.failures result.0)) e)) }
     ensures unfailed { OnOk result.1 (O.failures result.0 ≡ O.failures output) }
+    ensures nothing { MakesNothing F.lacks folders.old folders.new }
 {
     match opened(alloc, folders, mirror) {
         Ok(store) => {
@@ -104,6 +106,7 @@ fn pull_asked<R: Net<Stream = TcpStream>, F: Folders, O: Output + Drop>(
     ensures refused { IfErr result.1 (NotPulled F.Place.Disk F.Folders folders.old folders.new pull
         (O.contents output) (O.failures output) (O.contents result.0) (O.failures result.0)) }
     ensures unfailed { OnOk result.1 (O.failures result.0 ≡ O.failures output) }
+    ensures nothing { MakesNothing F.lacks folders.old folders.new }
 {
     let Pull {
         mirror,
@@ -146,6 +149,7 @@ fn pull_flushed<R: Net<Stream = TcpStream>, F: Folders, O: Output + Drop>(
         (O.failures result.0)) }
     ensures handed { OnOk result.1 (O.is_handed_on result.0) }
     ensures unfailed { OnOk result.1 (O.failures result.0 ≡ O.failures output) }
+    ensures nothing { MakesNothing F.lacks folders.old folders.new }
 {
     let (output, done) = pull_asked(rt, alloc, folders, pull, output);
     let mut output = output;
@@ -175,6 +179,7 @@ pub fn pull<R: Net<Stream = TcpStream>, F: Folders, O: Output + Drop, E: Output>
     errors: &mut E,
 ) -> (u8, O)
     ensures status { (result.0 ≡ 0) ⊎ (result.0 ≡ 1) }
+    ensures nothing { MakesNothing F.lacks folders.old folders.new }
     ensures done { result.0 ≡ 0 → HandsOn (IsPulled F.Place.Disk F.Folders folders.old folders.new pull
         (O.contents output)) (O.contents result.1) }
     ensures handed { result.0 ≡ 0 → O.is_handed_on result.1 }

@@ -11,6 +11,7 @@ ghost use Rattle.sockets.specs.Lines.{listening};
 ghost use Rattle.store_engines.specs.Mirrors.{is_mirror};
 ghost use Rattle.svn_ends.specs.Served.{IsOfStore};
 ghost use Rattle.fleet_disk.specs.Image.{Image};
+ghost use Rattle.fleet_disk.specs.Lending.{MakesNothing};
 ghost use Rattle.repo_store.specs.Journal.{Keeps};
 ghost use Rattle.fleet_main.specs.Doing.{EndsWith, HandsOn};
 ghost use Rattle.fleet_main.specs.Serving.{IsServedFrom, IsServerFault, NotServedFrom, NotServedIn, OfServed};
@@ -159,6 +160,7 @@ where
     ensures refused { IfErr result.1 (NotServedIn F.Place.Disk F.Folders folders.old folders.new folder.now
         (O.contents output) (O.contents result.0)) }
     ensures unfailed { OnOk result.1 (O.failures result.0 ≡ O.failures output) }
+    ensures nothing { MakesNothing F.lacks folders.old folders.new }
 {
     match opened(alloc, folders, folder) {
         Ok(store) => {
@@ -193,6 +195,7 @@ where
     ensures refused { IfErr result.1 (NotServedFrom F.Place.Disk F.Folders folders.old folders.new
         service.now (O.contents output) (O.contents result.0) (O.failures result.0)) }
     ensures unfailed { OnOk result.1 (O.failures result.0 ≡ O.failures output) }
+    ensures nothing { MakesNothing F.lacks folders.old folders.new }
 {
     let folder = service.folder.as_str();
     let address = address_of(service);
@@ -226,6 +229,7 @@ where
         service.now (O.contents output)) (O.failures output) (O.contents result.0) (O.failures result.0)) }
     ensures handed { OnOk result.1 (O.is_handed_on result.0) }
     ensures unfailed { OnOk result.1 (O.failures result.0 ≡ O.failures output) }
+    ensures nothing { MakesNothing F.lacks folders.old folders.new }
 {
     let (output, done) = serve_asked(rt, alloc, folders, service, teller, output);
     let mut output = output;
@@ -239,9 +243,9 @@ where
 /// Serves a folder's repository over ra_svn on a port of 127.0.0.1, a thread for each connection, and returns once so
 /// many have ended. It says where it listens in a line; a mirror takes no changes. The status is 0, or 1 where it was
 /// refused, and then the refusal's line is on `errors`: what refuses an opening, PeerFailed (49) where it can't listen
-/// there or can't say so, OutOfMemory (70). A session that ends badly ends itself alone. What the device or want of memory refused in a session is told to the
-/// teller when that has ended, and so is that a connection can't be accepted; each kind once a minute. `errors` has no
-/// part in that. The output comes back.
+/// there or can't say so, OutOfMemory (70). A session that ends badly ends itself alone. What the device or want of
+/// memory refused in a session is told to the teller when that has ended, and so is that a connection can't be accepted;
+/// each kind once a minute. `errors` has no part in that. The output comes back.
 ///
 /// Of honest folders it says besides what repository the folder's disk kept, that a stop left it as the server began, and
 /// that the folder has a store's disk again in the end, and every other folder what it had. What clients were told and
@@ -264,6 +268,7 @@ pub fn serve<
 where
     F::Place: Send,
     ensures status { (result.0 ≡ 0) ⊎ (result.0 ≡ 1) }
+    ensures nothing { MakesNothing F.lacks folders.old folders.new }
     ensures done { result.0 ≡ 0 → HandsOn (IsServedFrom F.Place.Disk F.Folders folders.old folders.new service.now
         (O.contents output)) (O.contents result.1) }
     ensures handed { result.0 ≡ 0 → O.is_handed_on result.1 }

@@ -2,7 +2,7 @@
 
 use crate::dumps::{HEAD, ONE_FILE, ZERO, joined};
 use byte_streams::{CountedReader, FuseInput, Input, MemOutput, Output};
-use fleet_disk::HeldFiles;
+use fleet_disk::{HeldFiles, StdFolders};
 use fleet_engines::{records_dont_matter, revisions_are_grouped, run_canon, run_list};
 use fleet_main::law::one_dump;
 use fleet_main::{Command, HostFolders, run};
@@ -20,7 +20,7 @@ fn tells<H: HeldFiles, I: Input>(
     passing: u64,
 ) -> (bool, MemOutput) {
     let mut errors = MemOutput::new(alloc, WRITES);
-    let mut folders = HostFolders::new(files);
+    let mut folders = HostFolders::new(StdFolders::new(files));
     let (status, output) = run(
         alloc,
         &mut folders,
@@ -56,7 +56,7 @@ fn failed_writer_is_told(rt: HostRuntime) {
 // Whether a run with no room for its line on standard error ends with status 1 all the same.
 fn ends_without_its_line<H: HeldFiles, I: Input>(alloc: Global, files: &H, input: &mut I) -> bool {
     let mut errors = MemOutput::new(alloc, 0);
-    let mut folders = HostFolders::new(files);
+    let mut folders = HostFolders::new(StdFolders::new(files));
     let (status, output) = run(
         alloc,
         &mut folders,

@@ -12,7 +12,7 @@
 //! stand, and may itself be stopped at any moment.
 //!
 //! ```text
-//! let disk = HostDisk::create(&rt, alloc, "folder")?;
+//! let disk = create_folder(&mut StdFolders::new(&rt), alloc, "folder")?;
 //! let mut log = GateLog::create(alloc, disk).map_err(|(fault, _disk)| fault)?;
 //! let receipt = log.append(b"first")?;
 //! let log = GateLog::open(alloc, log.into_disk()).map_err(|(fault, _disk)| fault)?;

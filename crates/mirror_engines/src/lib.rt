@@ -2,8 +2,9 @@
 //! mirror of a master, bring it up to that, copy properties of its revisions again, and tell how it stands.
 //!
 //! ```text
-//! let Ok(source) = open_store(alloc, HostDisk::open(&rt, alloc, "source")?) else { .. };
-//! let Ok(mirror) = open_store(alloc, HostDisk::open(&rt, alloc, "mirror")?) else { .. };
+//! let mut folders = StdFolders::new(&rt);
+//! let Ok(source) = RepoStore::open(alloc, open_folder(&mut folders, alloc, "source")?) else { .. };
+//! let Ok(mirror) = RepoStore::open(alloc, open_folder(&mut folders, alloc, "mirror")?) else { .. };
 //! let (mirror, output, done) = run_initialize(alloc, mirror, LentMaster::new(&source), url, output);
 //! done?;
 //! let master = LentMaster::new(&source);

@@ -7,7 +7,7 @@
 //! is read and changed in that, until `upgrade` makes it one of the second, which has the MD5 of each entry.
 //!
 //! ```text
-//! let disk = HostDisk::create(&rt, alloc, "folder")?;
+//! let disk = create_folder(&mut StdFolders::new(&rt), alloc, "folder")?;
 //! let mut store = RepoStore::create(alloc, disk, identity).map_err(|(fault, _disk)| fault)?;
 //! let committed = store.commit(alloc, store.repo().head(), set, props, Moment::from_micros(now))?;
 //! let store = RepoStore::open(alloc, store.into_disk()).map_err(|(fault, _disk)| fault)?;

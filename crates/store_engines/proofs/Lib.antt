@@ -1,4 +1,3 @@
-pub mod Beginning
 pub mod Committing
 pub mod Devices
 pub mod Dumping

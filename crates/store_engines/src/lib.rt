@@ -1,8 +1,9 @@
-//! The engines of the commands over a store, over any disk, input and output: they begin a repository, load a dump
-//! into it, dump it, commit a directory, and give its entries their sums.
+//! The engines of the commands over a store, over any disk, input and output: they load a dump into it,
+//! dump it, commit a directory, and give its entries their sums.
 //!
 //! ```text
-//! let Ok(mut store) = open_store(alloc, HostDisk::open(&rt, alloc, "folder")?) else { .. };
+//! let disk = open_folder(&mut StdFolders::new(&rt), alloc, "folder")?;
+//! let Ok(mut store) = RepoStore::open(alloc, disk) else { .. };
 //! run_load(alloc, false, &mut store, &mut input, &mut output)?;
 //! run_dump(alloc, &store, None, &mut output)?;
 //! ```
@@ -12,7 +13,6 @@
 //! are now.
 #![tactic(auto)]
 
-pub use begin::{create_store, open_store};
 pub use dump::run_dump;
 pub use load::run_load;
 pub use make_dir::run_mkdir;
@@ -23,7 +23,6 @@ pub use repo_store::{log_refusal, store_refusal};
 pub use report::LoadReport;
 pub use upgrade::run_upgrade;
 
-mod begin;
 mod commits;
 mod dump;
 mod lines;

@@ -2,7 +2,7 @@
 //! and serves these to Subversion's clients.
 #![tactic(auto)]
 
-use fleet_disk::HeldFiles;
+use fleet_disk::{HeldFiles, StdFolders};
 use fleet_main::{
     Command, CountedReader, CountedWriter, Fleet, HostDescriptors, HostFolders, HostTeller,
     Planned, Pull, Service, Usage, fill_streams, fleet, plan, pull, run, serve,
@@ -109,7 +109,7 @@ fn ran<R: HeldFiles>(rt: &HostRuntime, files: &R, command: Command) -> u8 {
     let mut errors = CountedWriter::new(rt.stderr());
     let (status, _output) = run(
         rt.alloc(),
-        &mut HostFolders::new(files),
+        &mut HostFolders::new(StdFolders::new(files)),
         command,
         &mut input,
         CountedWriter::new(buffer),
@@ -127,7 +127,7 @@ fn pulled<R: HeldFiles + Net<Stream = TcpStream>>(rt: &HostRuntime, handle: &R, 
     let (status, _output) = pull(
         handle,
         rt.alloc(),
-        &mut HostFolders::new(handle),
+        &mut HostFolders::new(StdFolders::new(handle)),
         asked,
         CountedWriter::new(buffer),
         &mut errors,
@@ -146,7 +146,7 @@ where
     let (status, _output) = serve(
         handle,
         rt.alloc(),
-        &mut HostFolders::new(handle),
+        &mut HostFolders::new(StdFolders::new(handle)),
         service,
         &HostTeller::new(rt),
         CountedWriter::new(rt.stdout()),
@@ -168,7 +168,7 @@ where
     let (status, _output) = fleet(
         handle,
         rt.alloc(),
-        &mut HostFolders::new(handle),
+        &mut HostFolders::new(StdFolders::new(handle)),
         asked,
         CountedWriter::new(rt.stdout()),
         &mut errors,

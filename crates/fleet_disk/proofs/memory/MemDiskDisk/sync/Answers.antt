@@ -1,9 +1,8 @@
 use Rattle.std.proofs.Common.{[], ◌∷◌, ◌++◌, List, sym, ◌∙◌, ap, subst}
 use Rattle.fleet_disk.specs.declared.call.DiskCall.{DiskCall}
-use Rattle.fleet_disk.specs.declared.call.DiskCall.TheVariants.{Read, Len, Write, Cut, Sync}
+use Rattle.fleet_disk.specs.declared.call.DiskCall.TheVariants.{Sync}
 use Rattle.fleet_disk.specs.Contents.{image_of}
 use Rattle.fleet_disk.specs.Image.{Image}
-use Rattle.fleet_disk.specs.Memory.{does, Leaves}
 use Rattle.fleet_disk.specs.MemoryLaws.{read_is_left}
 use Rattle.fleet_disk.specs.Stopped.{MayLeave}
 use Rattle.fleet_disk.proofs.Kept.{reads_push, left_push, elapses_push}

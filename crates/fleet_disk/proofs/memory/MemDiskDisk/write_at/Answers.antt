@@ -1,8 +1,7 @@
-use Rattle.std.proofs.Common.{ℕ, List, length, sym, ap, subst}
+use Rattle.std.proofs.Common.{ℕ, List, length, sym, subst}
 use Rattle.fleet_disk.specs.declared.call.DiskCall.TheVariants.{Write}
 use Rattle.fleet_disk.specs.declared.contents.Contents.{Contents}
 use Rattle.fleet_disk.specs.Contents.{image_of}
-use Rattle.fleet_disk.specs.Image.{Image}
 use Rattle.fleet_disk.specs.Memory.{Leaves, LeftSince}
 use Rattle.fleet_disk.specs.Rules.{OnFile, Torn, Elapses}
 use Rattle.fleet_disk.proofs.Kept.{left_push, elapses_push}

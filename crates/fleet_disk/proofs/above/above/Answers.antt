@@ -1,6 +1,6 @@
 use Rattle.std.proofs.Common.{refl, rules}
-use Rattle.fleet_main.proofs.Above.{above_split, above_root, above_none, some_left}
-use Rattle.fleet_main.proofs.folders.above.Goals as goal
+use Rattle.fleet_disk.proofs.AboveLemmas.{above_split, above_root, above_none, some_left}
+use Rattle.fleet_disk.proofs.above.above.Goals as goal
 
 pub returns-then-is_empty : goal.returns-then-is_empty
 returns-then-is_empty c =

@@ -7,7 +7,7 @@ use Rattle.std.proofs.lemmas.List.{append-nil, get_or_default, take-append-drop}
 use Rattle.std.proofs.lemmas.List.Elements.{All-cons, All-nil}
 use Rattle.std.proofs.lemmas.Str.Pattern.{NoCharPasses-char, drop_at_char}
 use Rattle.std.proofs.Math.Seq.{drop-length}
-use Rattle.fleet_main.specs.Above.{IsAbove, in_folder, in_root, in_this}
+use Rattle.fleet_disk.specs.Above.{IsAbove, in_folder, in_root, in_this}
 
 abbrev pub AllSlashes : List ℕ → Type 0
 AllSlashes = All (λ b. b ≡ 47)

@@ -1,9 +1,0 @@
-use Rattle.std.proofs.Common.{◌∙◌}
-use Rattle.fleet_disk.proofs.InFolder.{in_folder}
-use Rattle.fleet_disk.proofs.folder.HostDisk+StdFiles+F.open.Goals as goal
-
-pub returns-clause-inside : goal.returns-clause-inside
-returns-clause-inside g c =
-    in_folder g.R.HeldFiles.is_at c.args.folder.now c.as_str.result.now c.as_str-2.result.now c.as_str-3.result.now c.in_ok-files.files c.new.result c.new.ensures
-    (c.as_str.ensures.value ∙ c.in_ok-journal.ensures.ok) (c.as_str-2.ensures.value ∙ c.in_ok-gate.ensures.ok) (c.as_str-3.ensures.value ∙ c.in_ok-slots.ensures.ok)
-    c.in_ok-files.ensures.journal c.in_ok-files.ensures.gate c.in_ok-files.ensures.slots

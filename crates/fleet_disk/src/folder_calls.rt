@@ -1,0 +1,117 @@
+//! What a host does to open, make and close the files of folders.
+ghost use Rattle.std.specs.Prelude.{◌≡◌, ◌≤◌, ℕ, List, false, IfOk, IfErr, OnOk, OnErr};
+ghost use Rattle.fleet_disk.specs.FolderFiles.{AreIn, IsFound, IsHeld};
+ghost use Rattle.fleet_disk.specs.Lending.{FolderDisk, IsCounted, Lends, MakesNothing, MakesOnly};
+ghost use Rattle.fleet_disk.specs.Lending.{OthersStay, Spares, Lent, There};
+ghost use Rattle.fleet_disk.specs.declared.folder_files.FolderFiles.{FolderFiles as FilesOf};
+
+use crate::disk::Disk;
+use crate::folder_fault::FolderFault;
+use crate::folder_files::FolderFiles;
+use std::alloc::Global;
+
+/// The single calls of a host by which the files of folders are opened, made and closed.
+///
+/// What the clauses say of disks holds of an honest host. A call is refused only where the host's count of failures rose
+/// (31), or where memory ran out (70), honest or not.
+pub trait FolderCalls {
+    /// An open file.
+    type File: Drop;
+
+    /// The disk of a folder whose files are open.
+    type Place: Disk + Drop;
+
+    /// Nobody else changes the folders, each has one name, and their disks keep the rules.
+    ghost honest: { Self → Type 0 };
+
+    /// What a folder has for a disk. Files that aren't there read as empty ones do.
+    ghost disk: { Self → List ℕ → FolderDisk Self.Place };
+
+    /// Nothing is at a path.
+    ghost lacks: { Self → List ℕ → Type 0 };
+
+    /// The file is the one at this path.
+    ghost is_at: { Self.File → List ℕ → Type 0 };
+
+    /// No other opening of the file is held, in this process or in another, until it is closed.
+    ghost is_held: { Self.File → Type 0 };
+
+    /// The host answered that the file isn't empty.
+    ghost has_bytes: { Self.File → Type 0 };
+
+    /// The files that a disk is over.
+    ghost files: { Self.Place → FilesOf Self.File };
+
+    /// How often a call of the host has failed.
+    ghost failures: { Self → ℕ };
+
+    /// Opens the file at a path to read and write it (`open`); None where nothing is there.
+    fn open(&mut self, path: &str) -> Result<Option<Self::File>, FolderFault>
+        ensures found { IfOk result (IsFound is_at (lacks self.new) path.now) }
+        ensures nothing { MakesNothing lacks self.old self.new }
+        ensures spares { Spares honest disk failures self.old self.new }
+        ensures cause { IfErr result (IsCounted (failures self.old) (failures self.new)) };
+
+    /// Opens the file at a path, which is made, empty, where nothing is there (`open` with `O_CREAT`).
+    fn make(&mut self, path: &str) -> Result<Self::File, FolderFault>
+        ensures at { IfOk result (λ file. is_at file path.now) }
+        ensures nothing_else { MakesOnly lacks path.now self.old self.new }
+        ensures spares { Spares honest disk failures self.old self.new }
+        ensures cause { IfErr result (IsCounted (failures self.old) (failures self.new)) };
+
+    /// Holds a file (`flock`). It is refused where another opening holds it.
+    fn hold(&mut self, file: &Self::File) -> Result<(), FolderFault>
+        ensures held { OnOk result (is_held file.now) }
+        ensures nothing { MakesNothing lacks self.old self.new }
+        ensures spares { Spares honest disk failures self.old self.new }
+        ensures cause { IfErr result (IsCounted (failures self.old) (failures self.new)) };
+
+    /// Whether a file has no byte (`fstat`).
+    fn is_empty(&mut self, file: &Self::File) -> Result<bool, FolderFault>
+        ensures bytes { IfOk result (λ empty. empty ≡ false → has_bytes file.now) }
+        ensures nothing { MakesNothing lacks self.old self.new }
+        ensures spares { Spares honest disk failures self.old self.new }
+        ensures cause { IfErr result (IsCounted (failures self.old) (failures self.new)) };
+
+    /// Makes a folder (`mkdir`); false where something of its name is there.
+    fn make_folder(&mut self, folder: &str) -> Result<bool, FolderFault>
+        ensures nothing_else { MakesOnly lacks folder.now self.old self.new }
+        ensures spares { Spares honest disk failures self.old self.new }
+        ensures cause { IfErr result (IsCounted (failures self.old) (failures self.new)) };
+
+    /// Makes the names in a folder last (`fsync`).
+    fn sync_folder(&mut self, folder: &str) -> Result<(), FolderFault>
+        ensures nothing { MakesNothing lacks self.old self.new }
+        ensures spares { Spares honest disk failures self.old self.new }
+        ensures cause { IfErr result (IsCounted (failures self.old) (failures self.new)) };
+
+    /// Lends the disk of a folder over those of its files that are there, which it takes. One that is lent isn't lent
+    /// again.
+    fn lend(
+        &mut self,
+        alloc: Global,
+        folder: &str,
+        opened: &mut FolderFiles<Self::File>,
+    ) -> Result<Self::Place, FolderFault>
+        ensures lends { AreIn is_at (lacks self.old) folder.now opened.old → IsHeld is_held opened.old
+            → IfOk result (Lends Self.Place.Disk honest disk self.old self.new folder.now) }
+        ensures files { IfOk result (λ place. files place ≡ opened.old) }
+        ensures uncounted { IfOk result (λ place. Self.Place.failures place ≡ 0) }
+        ensures nothing { MakesNothing lacks self.old self.new }
+        ensures same { OnErr result (Spares honest disk failures self.old self.new) }
+        ensures later { failures self.old ≤ failures self.new }
+        ensures cause { IfErr result (IsCounted (failures self.old) (failures self.new)) };
+
+    /// Closes the files of a folder, and takes its disk back (`close`).
+    fn close(&mut self, folder: &str, place: Self::Place)
+        ensures back { honest self.old → disk self.old folder.now ≡ Lent → disk self.new folder.now ≡ There place }
+        ensures others { honest self.old → disk self.old folder.now ≡ Lent
+            → OthersStay folder.now (disk self.old) (disk self.new) }
+        ensures honest { honest self.old → Self.Place.honest place → honest self.new }
+        ensures nothing { MakesNothing lacks self.old self.new }
+        ensures later { failures self.old ≤ failures self.new };
+
+    /// The disks that are there keep the rules.
+    ghost keeps_rules: { (calls : Self) (folder : List ℕ) (place : Self.Place) → honest calls
+        → disk calls folder ≡ There place → Self.Place.honest place };
+}
