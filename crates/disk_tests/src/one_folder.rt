@@ -128,6 +128,10 @@ impl<D: Disk + Drop> FolderCalls for OneFolder<D> {
 
     ghost has_bytes = { λ file. ⊤ };
 
+    ghost is_new = { λ file. ⊤ };
+
+    ghost lasts = { λ calls path. ⊤ };
+
     ghost files = { λ place. place.files };
 
     ghost failures = { λ calls. calls.failures };

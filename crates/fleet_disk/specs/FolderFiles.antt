@@ -36,3 +36,9 @@ IsHeld p files = IfSome files.journal p
 -- p holds of one of the files
 abbrev pub HasBytes : {F : Type 0} → (F → Type 0) → FolderFiles F → Type 0
 HasBytes p files = IsSomeAnd files.journal p ⊎ IsSomeAnd files.gate p ⊎ IsSomeAnd files.slots p
+
+-- p holds of all files that are there
+pub record AreAll {F : Type 0} (p : F → Type 0) (files : FolderFiles F) : Type 0 where
+  pub journal : IfSome files.journal p
+  pub gate : IfSome files.gate p
+  pub slots : IfSome files.slots p

@@ -5,6 +5,7 @@ pub mod FolderFiles
 pub mod Fused
 pub mod Host
 pub mod Image
+pub mod Lasting
 pub mod Lending
 pub mod Memory
 pub mod MemoryLaws

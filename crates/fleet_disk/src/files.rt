@@ -16,7 +16,7 @@ use std::rt::Files;
 ///
 /// Each call is one of the host's, and nothing is claimed of it.
 pub trait HeldFiles: Files<File: FileExt> {
-    /// Opens the file at a path to read and write it; where `make` says so, one that isn't there is made.
+    /// Opens the file at a path to read and write it, or, where `make` says so, makes it where nothing is.
     fn open_at(&self, path: &str, make: bool) -> io::Result<Self::File>;
 
     /// Holds a file. The host refuses where another opening holds it.
@@ -32,7 +32,7 @@ impl HeldFiles for HostRuntime {
         OpenOptions::new()
             .read(true)
             .write(true)
-            .create(make)
+            .create_new(make)
             .open(self, path)
     }
 

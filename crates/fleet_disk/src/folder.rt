@@ -1,8 +1,10 @@
 //! The disks of folders, by the single calls of a host.
 ghost use Rattle.std.specs.Prelude.{◌≡◌, ◌≤◌, ◌⊎◌, IfOk, IfErr, IfSome, IsSome, IsTrue, OnOk, OnErr, string_bytes};
 ghost use Rattle.std.specs.Prelude.{IsNone, IsSomeAnd};
-ghost use Rattle.fleet_disk.specs.FolderFiles.{path_in, AreIn, HasBytes, HasFiles, IsFound, IsHeld, LacksEntries};
+ghost use Rattle.fleet_disk.specs.FolderFiles.{path_in, AreAll, AreIn, HasBytes, HasFiles, IsFound, IsHeld, LacksEntries};
+ghost use Rattle.fleet_disk.specs.Lasting.{IsMadeToLast, KeepsName, KeepsNames};
 ghost use Rattle.fleet_disk.specs.Lending.{IsCounted, Lends, MakesIn, MakesNothing, MakesOnly, Spares};
+ghost use Rattle.fleet_disk.specs.declared.disk.DiskFile.{DiskFile};
 ghost use Rattle.fleet_disk.specs.declared.disk.DiskFile.TheVariants.{Gate, Journal, Slots};
 
 use crate::above::above;
@@ -44,7 +46,8 @@ pub fn create_folder<C: FolderCalls>(
     ensures lends { IfOk result (Lends C.Place.Disk C.honest C.disk calls.old calls.new folder.now) }
     ensures held { IfOk result (λ place. IsHeld C.is_held (C.files place)) }
     ensures inside { IfOk result (λ place. AreIn C.is_at (C.lacks calls.new) folder.now (C.files place)) }
-    ensures made { IfOk result (λ place. HasFiles (C.files place)
+    ensures made { IfOk result (λ place. (HasFiles (C.files place) × AreAll C.is_new (C.files place)
+        × IsMadeToLast C.honest C.lacks C.lasts calls.old calls.new folder.now)
         ⊎ (HasBytes C.has_bytes (C.files place) × MakesNothing C.lacks calls.old calls.new)) }
     ensures uncounted { IfOk result (λ place. C.Place.failures place ≡ 0) }
     ensures nothing_else { MakesIn C.lacks folder.now calls.old calls.new }
@@ -72,7 +75,8 @@ pub fn complete_folder<C: FolderCalls>(
     ensures lends { IfOk result (Lends C.Place.Disk C.honest C.disk calls.old calls.new folder.now) }
     ensures held { IfOk result (λ place. IsHeld C.is_held (C.files place)) }
     ensures inside { IfOk result (λ place. AreIn C.is_at (C.lacks calls.new) folder.now (C.files place)) }
-    ensures made { IfOk result (λ place. HasFiles (C.files place)
+    ensures made { IfOk result (λ place. (HasFiles (C.files place)
+        × ((file : DiskFile) → C.lasts calls.new (path_in folder.now file)))
         ⊎ (LacksEntries (C.files place) × MakesNothing C.lacks calls.old calls.new)) }
     ensures uncounted { IfOk result (λ place. C.Place.failures place ≡ 0) }
     ensures nothing_else { MakesIn C.lacks folder.now calls.old calls.new }
@@ -101,6 +105,7 @@ fn lend<C: FolderCalls>(
     ensures files { IfOk result (λ place. C.files place ≡ files) }
     ensures uncounted { IfOk result (λ place. C.Place.failures place ≡ 0) }
     ensures nothing { MakesNothing C.lacks calls.old calls.new }
+    ensures names { KeepsNames C.lasts calls.old calls.new }
     ensures same { OnErr result (Spares C.honest C.disk C.failures calls.old calls.new) }
     ensures later { C.failures calls.old ≤ C.failures calls.new }
     ensures cause { IfErr result (IsCounted (C.failures calls.old) (C.failures calls.new)) }
@@ -136,7 +141,7 @@ fn opened<C: FolderCalls>(
     calls.open(path.as_str())
 }
 
-// Opens a file of a folder, which is made where it is missing.
+// Makes a file of a folder.
 fn made<C: FolderCalls>(
     calls: &mut C,
     alloc: Global,
@@ -144,7 +149,9 @@ fn made<C: FolderCalls>(
     file: DiskFile,
 ) -> Result<C::File, FolderFault>
     ensures at { IfOk result (λ made. C.is_at made (path_in folder.now file)) }
+    ensures new { IfOk result C.is_new }
     ensures nothing_else { MakesIn C.lacks folder.now calls.old calls.new }
+    ensures name { KeepsName C.lasts folder.now calls.old calls.new }
     ensures spares { Spares C.honest C.disk C.failures calls.old calls.new }
     ensures cause { IfErr result (IsCounted (C.failures calls.old) (C.failures calls.new)) }
 {
@@ -194,6 +201,7 @@ fn has_bytes<C: FolderCalls>(
     files: &FolderFiles<C::File>,
 ) -> Result<bool, FolderFault>
     ensures some { IfOk result (λ some. IsTrue some → HasBytes C.has_bytes files.now) }
+    ensures none { IfOk result (λ some. ¬ IsTrue some → AreAll C.is_new files.now) }
     ensures nothing { MakesNothing C.lacks calls.old calls.new }
     ensures spares { Spares C.honest C.disk C.failures calls.old calls.new }
     ensures cause { IfErr result (IsCounted (C.failures calls.old) (C.failures calls.new)) }
@@ -207,6 +215,7 @@ fn has_bytes<C: FolderCalls>(
 // Whether a file is there and isn't empty.
 fn is_full<C: FolderCalls>(calls: &mut C, file: &Option<C::File>) -> Result<bool, FolderFault>
     ensures some { IfOk result (λ some. IsTrue some → IsSomeAnd file.now C.has_bytes) }
+    ensures none { IfOk result (λ some. ¬ IsTrue some → IfSome file.now C.is_new) }
     ensures nothing { MakesNothing C.lacks calls.old calls.new }
     ensures spares { Spares C.honest C.disk C.failures calls.old calls.new }
     ensures cause { IfErr result (IsCounted (C.failures calls.old) (C.failures calls.new)) }
@@ -238,7 +247,9 @@ fn there<C: FolderCalls>(
 ) -> Result<C::File, FolderFault>
     requires { IfSome found (λ there. C.is_at there (path_in folder.now file)) }
     ensures at { IfOk result (λ there. C.is_at there (path_in folder.now file)) }
+    ensures new { IfSome found C.is_new → IfOk result C.is_new }
     ensures nothing_else { MakesIn C.lacks folder.now calls.old calls.new }
+    ensures name { KeepsName C.lasts folder.now calls.old calls.new }
     ensures spares { Spares C.honest C.disk C.failures calls.old calls.new }
     ensures cause { IfErr result (IsCounted (C.failures calls.old) (C.failures calls.new)) }
 {
@@ -259,7 +270,9 @@ fn held_journal<C: FolderCalls>(
     requires held { IfSome found C.is_held }
     ensures at { IfOk result (λ there. C.is_at there (path_in folder.now Journal)) }
     ensures held { IfOk result C.is_held }
+    ensures new { IfSome found C.is_new → IfOk result C.is_new }
     ensures nothing_else { MakesIn C.lacks folder.now calls.old calls.new }
+    ensures name { KeepsName C.lasts folder.now calls.old calls.new }
     ensures spares { Spares C.honest C.disk C.failures calls.old calls.new }
     ensures cause { IfErr result (IsCounted (C.failures calls.old) (C.failures calls.new)) }
 {
@@ -275,6 +288,8 @@ fn held_journal<C: FolderCalls>(
 
 // Makes the folder where it is missing. Its name lasts once the folder above is synced.
 fn make_missing<C: FolderCalls>(calls: &mut C, folder: &str) -> Result<(), FolderFault>
+    ensures name { C.honest calls.old
+        → OnOk result (C.lacks calls.old folder.now → C.lasts calls.new folder.now) }
     ensures nothing_else { MakesOnly C.lacks folder.now calls.old calls.new }
     ensures spares { Spares C.honest C.disk C.failures calls.old calls.new }
     ensures cause { IfErr result (IsCounted (C.failures calls.old) (C.failures calls.new)) }
@@ -299,7 +314,9 @@ fn make_files<C: FolderCalls>(
     ensures inside { IfOk result (AreIn C.is_at (C.lacks calls.new) folder.now) }
     ensures whole { IfOk result HasFiles }
     ensures held { IfOk result (IsHeld C.is_held) }
+    ensures new { AreAll C.is_new files → IfOk result (AreAll C.is_new) }
     ensures nothing_else { MakesIn C.lacks folder.now calls.old calls.new }
+    ensures name { KeepsName C.lasts folder.now calls.old calls.new }
     ensures spares { Spares C.honest C.disk C.failures calls.old calls.new }
     ensures cause { IfErr result (IsCounted (C.failures calls.old) (C.failures calls.new)) }
 {
@@ -330,6 +347,8 @@ fn make_all<C: FolderCalls>(
     ensures inside { IfOk result (AreIn C.is_at (C.lacks calls.new) folder.now) }
     ensures whole { IfOk result HasFiles }
     ensures held { IfOk result (IsHeld C.is_held) }
+    ensures new { AreAll C.is_new files → IfOk result (AreAll C.is_new) }
+    ensures lasting { OnOk result (IsMadeToLast C.honest C.lacks C.lasts calls.old calls.new folder.now) }
     ensures nothing_else { MakesIn C.lacks folder.now calls.old calls.new }
     ensures spares { Spares C.honest C.disk C.failures calls.old calls.new }
     ensures cause { IfErr result (IsCounted (C.failures calls.old) (C.failures calls.new)) }
@@ -355,6 +374,7 @@ fn make_slots<C: FolderCalls>(
     ensures inside { IfOk result (AreIn C.is_at (C.lacks calls.new) folder.now) }
     ensures whole { IfOk result HasFiles }
     ensures held { IfOk result (IsHeld C.is_held) }
+    ensures lasting { OnOk result ((file : DiskFile) → C.lasts calls.new (path_in folder.now file)) }
     ensures nothing_else { MakesIn C.lacks folder.now calls.old calls.new }
     ensures spares { Spares C.honest C.disk C.failures calls.old calls.new }
     ensures cause { IfErr result (IsCounted (C.failures calls.old) (C.failures calls.new)) }

@@ -1,6 +1,7 @@
 //! What a host does to open, make and close the files of folders.
-ghost use Rattle.std.specs.Prelude.{◌≡◌, ◌≤◌, ℕ, List, false, IfOk, IfErr, OnOk, OnErr};
+ghost use Rattle.std.specs.Prelude.{◌≡◌, ◌≤◌, ℕ, List, false, true, IfOk, IfErr, OnOk, OnErr};
 ghost use Rattle.fleet_disk.specs.FolderFiles.{AreIn, IsFound, IsHeld};
+ghost use Rattle.fleet_disk.specs.Lasting.{IsSynced, KeepsNames, KeepsOthers};
 ghost use Rattle.fleet_disk.specs.Lending.{FolderDisk, IsCounted, Lends, MakesNothing, MakesOnly};
 ghost use Rattle.fleet_disk.specs.Lending.{OthersStay, Spares, Lent, There};
 ghost use Rattle.fleet_disk.specs.declared.folder_files.FolderFiles.{FolderFiles as FilesOf};
@@ -39,6 +40,12 @@ pub trait FolderCalls {
     /// The host answered that the file isn't empty.
     ghost has_bytes: { Self.File → Type 0 };
 
+    /// The host made the file, or answered that it is empty.
+    ghost is_new: { Self.File → Type 0 };
+
+    /// A stop leaves what is at a path.
+    ghost lasts: { Self → List ℕ → Type 0 };
+
     /// The files that a disk is over.
     ghost files: { Self.Place → FilesOf Self.File };
 
@@ -49,13 +56,16 @@ pub trait FolderCalls {
     fn open(&mut self, path: &str) -> Result<Option<Self::File>, FolderFault>
         ensures found { IfOk result (IsFound is_at (lacks self.new) path.now) }
         ensures nothing { MakesNothing lacks self.old self.new }
+        ensures names { KeepsNames lasts self.old self.new }
         ensures spares { Spares honest disk failures self.old self.new }
         ensures cause { IfErr result (IsCounted (failures self.old) (failures self.new)) };
 
-    /// Opens the file at a path, which is made, empty, where nothing is there (`open` with `O_CREAT`).
+    /// Makes an empty file at a path, where nothing is (`open` with `O_CREAT` and `O_EXCL`).
     fn make(&mut self, path: &str) -> Result<Self::File, FolderFault>
         ensures at { IfOk result (λ file. is_at file path.now) }
+        ensures new { IfOk result is_new }
         ensures nothing_else { MakesOnly lacks path.now self.old self.new }
+        ensures names { KeepsOthers lasts path.now self.old self.new }
         ensures spares { Spares honest disk failures self.old self.new }
         ensures cause { IfErr result (IsCounted (failures self.old) (failures self.new)) };
 
@@ -63,25 +73,32 @@ pub trait FolderCalls {
     fn hold(&mut self, file: &Self::File) -> Result<(), FolderFault>
         ensures held { OnOk result (is_held file.now) }
         ensures nothing { MakesNothing lacks self.old self.new }
+        ensures names { KeepsNames lasts self.old self.new }
         ensures spares { Spares honest disk failures self.old self.new }
         ensures cause { IfErr result (IsCounted (failures self.old) (failures self.new)) };
 
     /// Whether a file has no byte (`fstat`).
     fn is_empty(&mut self, file: &Self::File) -> Result<bool, FolderFault>
         ensures bytes { IfOk result (λ empty. empty ≡ false → has_bytes file.now) }
+        ensures new { IfOk result (λ empty. empty ≡ true → is_new file.now) }
         ensures nothing { MakesNothing lacks self.old self.new }
+        ensures names { KeepsNames lasts self.old self.new }
         ensures spares { Spares honest disk failures self.old self.new }
         ensures cause { IfErr result (IsCounted (failures self.old) (failures self.new)) };
 
     /// Makes a folder (`mkdir`); false where something of its name is there.
     fn make_folder(&mut self, folder: &str) -> Result<bool, FolderFault>
+        ensures there { honest self.old → IfOk result (λ made. made ≡ false → ¬ lacks self.old folder.now) }
         ensures nothing_else { MakesOnly lacks folder.now self.old self.new }
+        ensures names { KeepsOthers lasts folder.now self.old self.new }
         ensures spares { Spares honest disk failures self.old self.new }
         ensures cause { IfErr result (IsCounted (failures self.old) (failures self.new)) };
 
     /// Makes the names in a folder last (`fsync`).
     fn sync_folder(&mut self, folder: &str) -> Result<(), FolderFault>
+        ensures synced { OnOk result (IsSynced (lasts self.new) folder.now) }
         ensures nothing { MakesNothing lacks self.old self.new }
+        ensures names { KeepsNames lasts self.old self.new }
         ensures spares { Spares honest disk failures self.old self.new }
         ensures cause { IfErr result (IsCounted (failures self.old) (failures self.new)) };
 
@@ -98,6 +115,7 @@ pub trait FolderCalls {
         ensures files { IfOk result (λ place. files place ≡ opened.old) }
         ensures uncounted { IfOk result (λ place. Self.Place.failures place ≡ 0) }
         ensures nothing { MakesNothing lacks self.old self.new }
+        ensures names { KeepsNames lasts self.old self.new }
         ensures same { OnErr result (Spares honest disk failures self.old self.new) }
         ensures later { failures self.old ≤ failures self.new }
         ensures cause { IfErr result (IsCounted (failures self.old) (failures self.new)) };
@@ -109,6 +127,7 @@ pub trait FolderCalls {
             → OthersStay folder.now (disk self.old) (disk self.new) }
         ensures honest { honest self.old → Self.Place.honest place → honest self.new }
         ensures nothing { MakesNothing lacks self.old self.new }
+        ensures names { KeepsNames lasts self.old self.new }
         ensures later { failures self.old ≤ failures self.new };
 
     /// The disks that are there keep the rules.

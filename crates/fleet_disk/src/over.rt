@@ -1,4 +1,5 @@
 //! A host over a disk, for tests.
+ghost use Rattle.std.specs.Prelude.{◌≡◌};
 
 use crate::calls::HostCalls;
 use crate::disk::{Disk, DiskFault, DiskFile};
@@ -11,7 +12,9 @@ pub struct OverDisk<D: Disk> {
 
 impl<D: Disk> OverDisk<D> {
     /// The files of that disk.
-    pub fn new(disk: D) -> OverDisk<D> {
+    pub fn new(disk: D) -> OverDisk<D>
+        ensures { result.disk ≡ disk }
+    {
         OverDisk { disk }
     }
 }

@@ -71,7 +71,7 @@ impl<'a, R: HeldFiles> FolderCalls for StdFolders<'a, R> {
 
     ghost disk = { λ calls folder. Missing };
 
-    // The library says nothing of where a file is, what a host holds, nor of what its files have.
+    // The library says nothing of where a file is, what a host holds, what its files have, nor of what a stop leaves.
     ghost lacks = { λ calls path. ⊤ };
 
     ghost is_at = { λ file path. ⊤ };
@@ -79,6 +79,10 @@ impl<'a, R: HeldFiles> FolderCalls for StdFolders<'a, R> {
     ghost is_held = { λ file. ⊤ };
 
     ghost has_bytes = { λ file. ⊤ };
+
+    ghost is_new = { λ file. ⊤ };
+
+    ghost lasts = { λ calls path. ⊤ };
 
     ghost files = { λ place. files_of place };
 
