@@ -1,5 +1,5 @@
 -- What is looked at of a folder, child by child, and where it is put.
-use Rattle.std.proofs.Common.{◌≡◌, Bool, true, false, cond, not, List, [], ◌∷◌, ◌++◌, Option, Some, None, IsSome, IsNone, is_some, refl, sym, ap, subst, ◌∙◌}
+use Rattle.std.proofs.Common.{◌≡◌, Bool, true, false, cond, not, List, [], ◌∷◌, ◌++◌, Option, Some, None, IsSome, IsNone, is_some, refl, sym, ap, subst, ◌∙◌, append-nil}
 use Rattle.std.specs.Option.{option_map, option_map_or, option_and_then}
 use Rattle.std.specs.FinMap.{find, get, keys, contains_key-keys}
 use Rattle.node_base.specs.Limits.{fits}
@@ -13,6 +13,7 @@ use Rattle.path_tree.specs.Copies.{copy_too_long}
 use Rattle.path_tree.proofs.Copies.{copy_fits}
 use Rattle.path_tree.proofs.Fronts.{fronts_all}
 use Rattle.tree_reports.specs.declared.depth.Depth.{Depth}
+use Rattle.tree_reports.specs.declared.depth.Depth.TheVariants.{Empty}
 use Rattle.tree_reports.specs.Applied.{Content, content}
 use Rattle.tree_reports.specs.Depths.{takes_child, goes_below, is_within, within}
 use Rattle.tree_reports.specs.Folders.{IsGrafted, in_folder}
@@ -99,3 +100,9 @@ file_within m source node d t there text (n ∷ r) =
 -- nothing is below a file
 pub file_brought : (m : PathMap) (source : Path) (node : Node) (d : Depth) → IsTree m → get m source ≡ Some node → is_some node.text ≡ true → ◌≡◌ {A = Path → Option Content} (brought false m source) (brought_within d m source)
 file_brought m source node d t there text = λ i r. option_map content (file_within m source node d t there text r i)
+
+-- of a folder that is looked at alone, its node
+pub alone_within : (m : PathMap) (folder : Path) (x : Node) → get m folder ≡ Some x → (q : Path) → alone x q ≡ within Empty (in_folder m folder) q
+alone_within m folder x there [] = ap (option_and_then (λ y. cond true (Some y) None)) (sym (ap (get m) (append-nil folder) ∙ there))
+alone_within m folder x there (n ∷ []) = sym (nothing_taken (get m (folder ++ n ∷ [])))
+alone_within m folder x there (n ∷ k ∷ r) = sym (nothing_taken (get m (folder ++ n ∷ k ∷ r)))

@@ -6,6 +6,7 @@ ghost use Rattle.node_base.specs.Tree.{IsDirAt};
 ghost use Rattle.path_tree.specs.Calls.{added};
 ghost use Rattle.tree_reports.specs.Depths.{goes_below, takes_child, within};
 ghost use Rattle.tree_reports.specs.Folders.{IsGrafted, in_folder};
+ghost use Rattle.tree_reports.specs.declared.depth.Depth.TheVariants.{Empty};
 
 use crate::depth::{Depth, takes_child};
 use crate::folder::{child_path, root_like, subtree};
@@ -14,7 +15,7 @@ use path_tree::{ChildNode, Tree};
 use std::alloc::{AllocError, Global};
 
 /// What stands at a folder of a tree, looked at so deep, as a tree of its own, with the same numbers. Only the folder's
-/// children are gone through.
+/// children are gone through, and none where the folder alone is looked at.
 pub fn limited(
     alloc: Global,
     tree: &Tree,
@@ -27,10 +28,22 @@ pub fn limited(
 {
     match depth {
         Depth::Infinity => subtree(alloc, tree, folder),
-        Depth::Empty => shallow(alloc, tree, folder, depth),
+        Depth::Empty => bare(alloc, tree, folder),
         Depth::Files => shallow(alloc, tree, folder, depth),
         Depth::Immediates => shallow(alloc, tree, folder, depth),
     }
+}
+
+// The same where the folder alone is looked at.
+#[tactic(auto, using(crate::proofs::Taken::alone_within))]
+fn bare(alloc: Global, tree: &Tree, folder: &NodePath) -> Result<Tree, AllocError>
+    requires { IsDirAt (map.get tree.now) folder.now }
+    ensures { IfOk result (λ t. (q : Path) → map.get t q ≡ within Empty (in_folder tree.now folder.now) q) }
+{
+    let Some(node) = tree.get(folder.names()) else {
+        unreachable!()
+    };
+    root_like(alloc, node)
 }
 
 // The same where nothing below the folder's children is looked at.
