@@ -37,7 +37,7 @@ why_unbegun G honest given back (Log f) e is rules (inr (inr h)) device memory t
 
 pub unbegun : {D : Type 0} (G : Ghosts D) (honest : Type 0) (identity : List ℕ) (given back : D) (f : StoreFault) (e : Refusal) → e ≡ store_refusal f → (honest → G.honest given) → IsCreateFault f
     → (f ≡ Log log.DeviceFailed → Rose (G.failures given) (G.failures back)) → (f ≡ Log log.OutOfMemory → back ≡ given) → (G.honest given → f ≡ Log log.ThereAlready → G.reads given ≢ no_bytes)
-    → (G.honest given → G.reads given ≢ no_bytes → Looks G.honest G.reads G.may_leave G.clock G.left_since G.failures given back)
+    → (G.honest given → G.reads given ≢ no_bytes → Looks G given back)
     → (G.honest given → Only no_bytes (G.may_leave given) → LeavesOnly G.clock G.left_since given back (λ image. IsBlank image ⊎ IsEither [] (beginning_of identity) image))
     → IsUnbegun G honest identity given back e
 unbegun G honest identity given back f e is rules no_other device memory there looks moment = record {

@@ -27,7 +27,7 @@ pub data WhyUnbegun {D : Type 0} (G : Ghosts D) (honest : Type 0) (given back : 
 -- and what is left of it: one with something on it stays as it was, and of one whose files are empty a stop at any moment leaves no entry, or one that begins the repository
 pub record IsUnbegun {D : Type 0} (G : Ghosts D) (honest : Type 0) (identity : List ℕ) (given back : D) (e : Refusal) : Type 0 where
   pub why : WhyUnbegun G honest given back e
-  pub stays : honest → G.reads given ≢ no_bytes → Looks G.honest G.reads G.may_leave G.clock G.left_since G.failures given back
+  pub stays : honest → G.reads given ≢ no_bytes → Looks G given back
   pub any_moment : honest → Only no_bytes (G.may_leave given) → LeavesOnly G.clock G.left_since given back (λ image. IsBlank image ⊎ IsEither [] (beginning_of identity) image)
 
 -- no repository is begun in a folder: no disk is lent, since the host failed or memory ran out; or none is begun on its disk

@@ -26,3 +26,7 @@ IsFindFault LogFull = ⊥
 -- what the search answers at one entry: 31, 33 with its number, or 70
 abbrev pub IsEntryFault : ℕ → LogFault → Type 0
 IsEntryFault entry fault = (fault ≡ DeviceFailed) ⊎ (fault ≡ Damaged entry) ⊎ (fault ≡ OutOfMemory)
+
+-- what a read of bytes that are there answers: 31 or 70
+abbrev pub IsReadFault : LogFault → Type 0
+IsReadFault fault = (fault ≡ DeviceFailed) ⊎ (fault ≡ OutOfMemory)

@@ -1,15 +1,15 @@
 -- Calls of a disk that only look at it.
 use Rattle.std.specs.Prelude.{◌≡◌, ◌≤◌, ◌-◌, ◌↔◌, ◌++◌, ℕ, List, length, take, drop, min}
-use Rattle.fleet_disk.specs.Image.{Image}
+use Rattle.fleet_disk.specs.declared.disk.Disk.{Ghosts}
 use Rattle.fleet_disk.specs.Rules.{Within, LeavesOnly}
 
 -- the reads stay, and at each moment a stop leaves only what it could leave before
-pub record Looks {D : Type 0} (honest : D → Type 0) (reads : D → Image) (may_leave : D → Image → Type 0) (clock : D → ℕ) (left_since : D → ℕ → Image → Type 0) (failures : D → ℕ) (old new : D) : Type 0 where
-  pub both_ways : honest old ↔ honest new
-  pub same : honest old → reads new ≡ reads old
-  pub inside : honest old → Within (may_leave new) (may_leave old)
-  pub moments : honest old → LeavesOnly clock left_since old new (may_leave old)
-  pub later : failures old ≤ failures new
+pub record Looks {D : Type 0} (G : Ghosts D) (old new : D) : Type 0 where
+  pub both_ways : G.honest old ↔ G.honest new
+  pub same : G.honest old → G.reads new ≡ G.reads old
+  pub inside : G.honest old → Within (G.may_leave new) (G.may_leave old)
+  pub moments : G.honest old → LeavesOnly G.clock G.left_since old new (G.may_leave old)
+  pub later : G.failures old ≤ G.failures new
 
 -- n bytes of a file from an offset on, as many as the buffer takes or the file has, at the front of a buffer
 pub record IsFilled (file : List ℕ) (at n : ℕ) (before after : List ℕ) : Type 0 where

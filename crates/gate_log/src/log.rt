@@ -1,10 +1,11 @@
 //! The log.
-ghost use Rattle.std.specs.Prelude.{◌≡◌, ◌≢◌, ◌⊎◌, ◌<◌, ◌≤◌, ◌+◌, ◌*◌, ◌^◌, ◌++◌, ◌∷◌, ◌↔◌, [], List, ℕ, false};
+ghost use Rattle.std.specs.Prelude.{◌≡◌, ◌≢◌, ◌⊎◌, ◌<◌, ◌≤◌, ◌+◌, ◌^◌, ◌++◌, ◌∷◌, ◌↔◌, [], List, ℕ, false};
 ghost use Rattle.std.specs.Prelude.{length, take, slice_get, Some, IsTrue, IfOk, IfErr, OnOk, OnErr, IsErrOf};
 ghost use Rattle.std.proofs.Props.{props};
 ghost use Rattle.fleet_disk.specs.Image.{Image, no_bytes};
-ghost use Rattle.fleet_disk.specs.Rules.{Only, LeavesOnly, Settles, Rose, Within};
-ghost use Rattle.gate_log.specs.Faults.{IsFindFault};
+ghost use Rattle.fleet_disk.specs.Rules.{Only, Rose, Within};
+ghost use Rattle.gate_log.specs.Device.{IsFailure, IsSafe, Leaves, SettlesAs};
+ghost use Rattle.gate_log.specs.Faults.{IsFindFault, IsReadFault};
 ghost use Rattle.gate_log.specs.Looks.{Looks};
 ghost use Rattle.gate_log.specs.Slots.{slots, gates_size};
 ghost use Rattle.gate_log.specs.Standing.{last_end, IsRising, IsAtRest, IsEither, IsBlank, IsDamagedAt, Stands};
@@ -12,6 +13,7 @@ ghost use Rattle.gate_log.specs.Standing.{StandsAlike, StandsAs, HasNoEntry, IsC
 ghost use Rattle.gate_log.specs.StandingLaws.{rising_prop, rest_prop};
 ghost use Rattle.gate_log.specs.Upgrade.{IsMigrationFault};
 ghost use Rattle.gate_log.specs.Version.{gates_of, others_of, HaveOneVersion, IsOf};
+ghost use Rattle.gate_log.specs.declared.fault.LogFault.TheVariants.{Damaged, DeviceFailed, Failed, LogFull, NoRepository, OutOfMemory, ThereAlready};
 ghost use Rattle.gate_log.specs.declared.version.LogVersion.TheVariants.{First, Second};
 
 use crate::create::begin;
@@ -42,7 +44,7 @@ pub struct GateLog<D: Disk> {
     ghost rising: { IsRising 0 ends.items } by { rising_prop 0 ends.items },
     ghost begun: { version ≡ First → 0 < length ends.items } by { Prim.hlevel props },
     ghost at_rest: { D.honest disk → failed ≡ false → IsAtRest version ends.items (D.reads disk) } by { rest_prop (D.honest disk) (failed ≡ false) version ends.items (D.reads disk) },
-    ghost durable: { D.honest disk → failed ≡ false → Only (D.reads disk) (D.may_leave disk) } by { Prim.hlevel props },
+    ghost durable: { D.honest disk → failed ≡ false → IsSafe D.Disk disk } by { Prim.hlevel props },
 }
 
 /// A sign that an entry is on the disk: only an append that answered Ok makes one.
@@ -64,7 +66,7 @@ impl Receipt {
 
 impl<D: Disk> GateLog<D> {
     ghost use Rattle.gate_log.specs.Log.{disk_of, version_of, ends_of, size_of, entries_of, entry_of, HasFailed};
-    ghost use Rattle.gate_log.specs.Log.{HasRoom};
+    ghost use Rattle.gate_log.specs.Log.{HasRoom, LooksIn};
 
     /// Begins a log without entries, of the second version, on a disk of empty files. Until it has answered Ok a stop
     /// leaves no entry and one gate at most, of any value, so that an opening answers NoRepository (34). The first append
@@ -80,18 +82,18 @@ impl<D: Disk> GateLog<D> {
         ensures version { IfOk result (λ log. version_of log ≡ Second) }
         ensures durable { D.honest disk → IfOk result
             (λ log. (image : Image) → D.may_leave (disk_of log) image → Stands image []) }
-        ensures there { D.honest disk → IfErr result (λ e. e.0 ≡ LogFault.ThereAlready → D.reads disk ≢ no_bytes) }
+        ensures there { D.honest disk → IfErr result (λ e. e.0 ≡ ThereAlready → D.reads disk ≢ no_bytes) }
         ensures looks { D.honest disk → D.reads disk ≢ no_bytes
-            → IfErr result (λ e. Looks D.honest D.reads D.may_leave D.clock D.left_since D.failures disk e.1) }
-        ensures device { IfErr result (λ e. e.0 ≡ LogFault.DeviceFailed → Rose (D.failures disk) (D.failures e.1)) }
-        ensures memory { IfErr result (λ e. e.0 ≡ LogFault.OutOfMemory → e.1 ≡ disk) }
+            → IfErr result (λ e. Looks D.Disk disk e.1) }
+        ensures device { IfErr result (λ e. e.0 ≡ DeviceFailed → Rose (D.failures disk) (D.failures e.1)) }
+        ensures memory { IfErr result (λ e. e.0 ≡ OutOfMemory → e.1 ≡ disk) }
         ensures room { IfOk result HasRoom }
-        ensures no_other { IfErr result (λ e. (e.0 ≡ LogFault.DeviceFailed) ⊎ (e.0 ≡ LogFault.ThereAlready)
-            ⊎ (e.0 ≡ LogFault.OutOfMemory)) }
+        ensures no_other { IfErr result (λ e. (e.0 ≡ DeviceFailed) ⊎ (e.0 ≡ ThereAlready)
+            ⊎ (e.0 ≡ OutOfMemory)) }
         ensures any_moment { D.honest disk → Only no_bytes (D.may_leave disk) → IfOk result
-            (λ log. LeavesOnly D.clock D.left_since disk (disk_of log) IsBlank) }
+            (λ log. Leaves D.Disk disk (disk_of log) IsBlank) }
         ensures any_moment_err { D.honest disk → Only no_bytes (D.may_leave disk) → IfErr result
-            (λ e. LeavesOnly D.clock D.left_since disk e.1 IsBlank) }
+            (λ e. Leaves D.Disk disk e.1 IsBlank) }
         ensures honest { IfOk result (λ log. D.honest disk ↔ D.honest (disk_of log)) }
         ensures honest_err { IfErr result (λ e. D.honest disk ↔ D.honest e.1) }
         ensures later { IfOk result (λ log. D.failures disk ≤ D.failures (disk_of log)) }
@@ -123,7 +125,7 @@ impl<D: Disk> GateLog<D> {
         ensures found { D.honest disk → (entries : List (List ℕ)) → Stands (D.reads disk) entries → 0 < length entries
             → IfOk result (λ log. entries_of log ≡ entries) }
         ensures refused { D.honest disk → (entries : List (List ℕ)) → Stands (D.reads disk) entries → 0 < length entries
-            → IfErr result (λ e. (e.0 ≡ LogFault.DeviceFailed) ⊎ (e.0 ≡ LogFault.OutOfMemory)) }
+            → IfErr result (λ e. (e.0 ≡ DeviceFailed) ⊎ (e.0 ≡ OutOfMemory)) }
         ensures stands { D.honest disk → IfOk result (λ log. Stands (D.reads disk) (entries_of log)) }
         ensures some { IfOk result (λ log. (0 < length (entries_of log)) × ¬ HasFailed log) }
         ensures files { D.honest disk → IfOk result
@@ -135,27 +137,27 @@ impl<D: Disk> GateLog<D> {
         ensures durable { D.honest disk → IfOk result
             (λ log. (image : Image) → D.may_leave (disk_of log) image → Stands image (entries_of log)) }
         ensures damaged { D.honest disk → (entry : ℕ) → IfErr result
-            (λ e. e.0 ≡ LogFault.Damaged entry → IsDamagedAt entry (D.reads disk)) }
-        ensures missing { D.honest disk → IfErr result (λ e. e.0 ≡ LogFault.NoRepository → HasNoEntry (D.reads disk)) }
-        ensures device { IfErr result (λ e. e.0 ≡ LogFault.DeviceFailed → Rose (D.failures disk) (D.failures e.1)) }
+            (λ e. e.0 ≡ Damaged entry → IsDamagedAt entry (D.reads disk)) }
+        ensures missing { D.honest disk → IfErr result (λ e. e.0 ≡ NoRepository → HasNoEntry (D.reads disk)) }
+        ensures device { IfErr result (λ e. e.0 ≡ DeviceFailed → Rose (D.failures disk) (D.failures e.1)) }
         ensures no_other { IfErr result (λ e. IsFindFault e.0) }
-        ensures any_moment { D.honest disk → IfOk result (λ log. LeavesOnly D.clock D.left_since disk (disk_of log)
+        ensures any_moment { D.honest disk → IfOk result (λ log. Leaves D.Disk disk (disk_of log)
             (λ c. D.may_leave disk c ⊎ StandsAlike (D.reads disk) c)) }
-        ensures any_moment_err { D.honest disk → IfErr result (λ e. LeavesOnly D.clock D.left_since disk e.1
+        ensures any_moment_err { D.honest disk → IfErr result (λ e. Leaves D.Disk disk e.1
             (λ c. D.may_leave disk c ⊎ StandsAlike (D.reads disk) c)) }
-        ensures version_stays { D.honest disk → IfOk result (λ log. LeavesOnly D.clock D.left_since disk (disk_of log)
+        ensures version_stays { D.honest disk → IfOk result (λ log. Leaves D.Disk disk (disk_of log)
             (λ c. D.may_leave disk c ⊎ HaveOneVersion (D.reads disk) c)) }
-        ensures version_stays_err { D.honest disk → IfErr result (λ e. LeavesOnly D.clock D.left_since disk e.1
+        ensures version_stays_err { D.honest disk → IfErr result (λ e. Leaves D.Disk disk e.1
             (λ c. D.may_leave disk c ⊎ HaveOneVersion (D.reads disk) c)) }
         ensures settles { D.honest disk → IfOk result
-            (λ log. Settles D.may_leave D.clock D.left_since disk (disk_of log) (StandsAs (D.reads disk))) }
+            (λ log. SettlesAs D.Disk disk (disk_of log) (StandsAs (D.reads disk))) }
         ensures settles_err { D.honest disk → IfErr result
-            (λ e. LeavesOnly D.clock D.left_since disk e.1 (D.may_leave disk)
-            ⊎ Settles D.may_leave D.clock D.left_since disk e.1 (StandsAs (D.reads disk))) }
+            (λ e. Leaves D.Disk disk e.1 (D.may_leave disk)
+            ⊎ SettlesAs D.Disk disk e.1 (StandsAs (D.reads disk))) }
         ensures kept { D.honest disk → IfErr result
-            (λ e. (e.0 ≡ LogFault.DeviceFailed) ⊎ Only (D.reads disk) (D.may_leave e.1)) }
-        ensures looks { D.honest disk → IfErr result (λ e. (e.0 ≡ LogFault.DeviceFailed)
-            ⊎ Looks D.honest D.reads D.may_leave D.clock D.left_since D.failures disk e.1) }
+            (λ e. (e.0 ≡ DeviceFailed) ⊎ Only (D.reads disk) (D.may_leave e.1)) }
+        ensures looks { D.honest disk → IfErr result (λ e. (e.0 ≡ DeviceFailed)
+            ⊎ Looks D.Disk disk e.1) }
         ensures honest { IfOk result (λ log. D.honest disk ↔ D.honest (disk_of log)) }
         ensures honest_err { IfErr result (λ e. D.honest disk ↔ D.honest e.1) }
         ensures later { IfOk result (λ log. D.failures disk ≤ D.failures (disk_of log)) }
@@ -231,11 +233,11 @@ impl<D: Disk> GateLog<D> {
         ensures entries { ends_of self.new ≡ ends_of self.old }
         ensures version { version_of self.new ≡ version_of self.old }
         ensures working { HasFailed self.new ↔ HasFailed self.old }
-        ensures failed { IsErrOf result LogFault.Failed ↔ HasFailed self.old }
-        ensures full { IsErrOf result LogFault.LogFull ↔ (¬ HasFailed self.old × (2 ^ 56 < size_of self.old + count)) }
-        ensures memory { IsErrOf result LogFault.OutOfMemory → ¬ HasRoom self.old }
-        ensures no_other { IfErr result (λ e. (e ≡ LogFault.Failed) ⊎ (e ≡ LogFault.LogFull)
-            ⊎ (e ≡ LogFault.OutOfMemory)) }
+        ensures failed { IsErrOf result Failed ↔ HasFailed self.old }
+        ensures full { IsErrOf result LogFull ↔ (¬ HasFailed self.old × (2 ^ 56 < size_of self.old + count)) }
+        ensures memory { IsErrOf result OutOfMemory → ¬ HasRoom self.old }
+        ensures no_other { IfErr result (λ e. (e ≡ Failed) ⊎ (e ≡ LogFull)
+            ⊎ (e ≡ OutOfMemory)) }
     {
         if self.failed {
             return Err(LogFault::Failed);
@@ -270,28 +272,27 @@ impl<D: Disk> GateLog<D> {
             → OnOk result ((image : Image) → D.may_leave (disk_of self.new) image
             → Stands image (entries_of self.old ++ bytes.now ∷ [])) }
         ensures any_moment { D.honest (disk_of self.old) → ¬ HasFailed self.old
-            → LeavesOnly D.clock D.left_since (disk_of self.old) (disk_of self.new)
+            → Leaves D.Disk (disk_of self.old) (disk_of self.new)
             (IsEither (entries_of self.old) bytes.now) }
         ensures any_moment_failed { D.honest (disk_of self.old) → HasFailed self.old
-            → LeavesOnly D.clock D.left_since (disk_of self.old) (disk_of self.new)
+            → Leaves D.Disk (disk_of self.old) (disk_of self.new)
             (D.may_leave (disk_of self.old)) }
-        ensures either { D.honest (disk_of self.old) → IsErrOf result LogFault.DeviceFailed → (image : Image)
+        ensures either { D.honest (disk_of self.old) → IsErrOf result DeviceFailed → (image : Image)
             → D.may_leave (disk_of self.new) image
             → IsEither (entries_of self.old) bytes.now image }
 
-        ensures device { IsErrOf result LogFault.DeviceFailed
-            → Rose (D.failures (disk_of self.old)) (D.failures (disk_of self.new)) }
-        ensures failed { IsErrOf result LogFault.Failed ↔ HasFailed self.old }
-        ensures full { IsErrOf result LogFault.LogFull ↔ (¬ HasFailed self.old
+        ensures device { IsFailure D.Disk (disk_of self.old) (disk_of self.new) result }
+        ensures failed { IsErrOf result Failed ↔ HasFailed self.old }
+        ensures full { IsErrOf result LogFull ↔ (¬ HasFailed self.old
             × (2 ^ 56 < size_of self.old + length bytes.now)) }
-        ensures memory { IsErrOf result LogFault.OutOfMemory → ¬ HasRoom self.old }
-        ensures no_other { IfErr result (λ e. (e ≡ LogFault.DeviceFailed) ⊎ (e ≡ LogFault.Failed)
-            ⊎ (e ≡ LogFault.LogFull) ⊎ (e ≡ LogFault.OutOfMemory)) }
+        ensures memory { IsErrOf result OutOfMemory → ¬ HasRoom self.old }
+        ensures no_other { IfErr result (λ e. (e ≡ DeviceFailed) ⊎ (e ≡ Failed)
+            ⊎ (e ≡ LogFull) ⊎ (e ≡ OutOfMemory)) }
 
         ensures kept { OnErr result (ends_of self.new ≡ ends_of self.old) }
-        ensures untouched { IfErr result (λ e. (e ≡ LogFault.DeviceFailed)
+        ensures untouched { IfErr result (λ e. (e ≡ DeviceFailed)
             ⊎ ((disk_of self.new ≡ disk_of self.old) × (ends_of self.new ≡ ends_of self.old))) }
-        ensures working { HasFailed self.new ↔ (HasFailed self.old ⊎ IsErrOf result LogFault.DeviceFailed) }
+        ensures working { HasFailed self.new ↔ (HasFailed self.old ⊎ IsErrOf result DeviceFailed) }
         ensures honest { D.honest (disk_of self.old) ↔ D.honest (disk_of self.new) }
         ensures later { D.failures (disk_of self.old) ≤ D.failures (disk_of self.new) }
     {
@@ -312,23 +313,14 @@ impl<D: Disk> GateLog<D> {
         requires { entry < length (ends_of self.old) }
         ensures bytes { D.honest (disk_of self.old) → IfOk result
             (λ bytes. slice_get (entries_of self.old) entry ≡ Some bytes.items) }
-        ensures same { D.honest (disk_of self.old) → entries_of self.new ≡ entries_of self.old }
-        ensures ends { ends_of self.new ≡ ends_of self.old }
-        ensures version { version_of self.new ≡ version_of self.old }
-        ensures inside { D.honest (disk_of self.old)
-            → Within (D.may_leave (disk_of self.new)) (D.may_leave (disk_of self.old)) }
-        ensures any_moment { D.honest (disk_of self.old)
-            → LeavesOnly D.clock D.left_since (disk_of self.old) (disk_of self.new) (D.may_leave (disk_of self.old)) }
-        ensures device { IsErrOf result LogFault.DeviceFailed
-            → Rose (D.failures (disk_of self.old)) (D.failures (disk_of self.new)) }
-        ensures failed { IsErrOf result LogFault.Failed ↔ HasFailed self.old }
-        ensures working { HasFailed self.new ↔ (HasFailed self.old ⊎ IsErrOf result LogFault.DeviceFailed) }
+        ensures looks { LooksIn self.old self.new }
+        ensures device { IsFailure D.Disk (disk_of self.old) (disk_of self.new) result }
+        ensures failed { IsErrOf result Failed ↔ HasFailed self.old }
+        ensures working { HasFailed self.new ↔ (HasFailed self.old ⊎ IsErrOf result DeviceFailed) }
         ensures no_other { D.honest (disk_of self.old) → IfErr result
-            (λ e. (e ≡ LogFault.DeviceFailed) ⊎ (e ≡ LogFault.Failed) ⊎ (e ≡ LogFault.OutOfMemory)) }
-        ensures faults { IfErr result (λ e. (e ≡ LogFault.DeviceFailed) ⊎ (e ≡ LogFault.Failed)
-            ⊎ (e ≡ LogFault.Damaged entry) ⊎ (e ≡ LogFault.OutOfMemory)) }
-        ensures honest { D.honest (disk_of self.old) ↔ D.honest (disk_of self.new) }
-        ensures later { D.failures (disk_of self.old) ≤ D.failures (disk_of self.new) }
+            (λ e. (e ≡ DeviceFailed) ⊎ (e ≡ Failed) ⊎ (e ≡ OutOfMemory)) }
+        ensures faults { IfErr result (λ e. (e ≡ DeviceFailed) ⊎ (e ≡ Failed)
+            ⊎ (e ≡ Damaged entry) ⊎ (e ≡ OutOfMemory)) }
     {
         if self.failed {
             return Err(LogFault::Failed);
@@ -364,20 +356,19 @@ impl<D: Disk> GateLog<D> {
         ensures same { D.honest (disk_of self.old) → entries_of self.new ≡ entries_of self.old }
         ensures kept { OnErr result (version_of self.new ≡ version_of self.old) }
         ensures any_moment { D.honest (disk_of self.old) → ¬ HasFailed self.old
-            → LeavesOnly D.clock D.left_since (disk_of self.old) (disk_of self.new)
+            → Leaves D.Disk (disk_of self.old) (disk_of self.new)
             (λ c. Stands c (entries_of self.old)) }
         ensures any_moment_failed { HasFailed self.old → disk_of self.new ≡ disk_of self.old }
         ensures durable { D.honest (disk_of self.old) → ¬ HasFailed self.old → (image : Image)
             → D.may_leave (disk_of self.new) image → Stands image (entries_of self.old) }
-        ensures looks { IfErr result (λ e. (e ≡ LogFault.DeviceFailed) ⊎ (e ≡ LogFault.Failed)
-            ⊎ Looks D.honest D.reads D.may_leave D.clock D.left_since D.failures (disk_of self.old) (disk_of self.new)) }
-        ensures device { IsErrOf result LogFault.DeviceFailed
-            → Rose (D.failures (disk_of self.old)) (D.failures (disk_of self.new)) }
-        ensures failed { IsErrOf result LogFault.Failed ↔ HasFailed self.old }
-        ensures working { HasFailed self.new ↔ (HasFailed self.old ⊎ IsErrOf result LogFault.DeviceFailed) }
+        ensures looks { IfErr result (λ e. (e ≡ DeviceFailed) ⊎ (e ≡ Failed)
+            ⊎ Looks D.Disk (disk_of self.old) (disk_of self.new)) }
+        ensures device { IsFailure D.Disk (disk_of self.old) (disk_of self.new) result }
+        ensures failed { IsErrOf result Failed ↔ HasFailed self.old }
+        ensures working { HasFailed self.new ↔ (HasFailed self.old ⊎ IsErrOf result DeviceFailed) }
         ensures no_other { D.honest (disk_of self.old) → IfErr result
-            (λ e. (e ≡ LogFault.DeviceFailed) ⊎ (e ≡ LogFault.Failed) ⊎ (e ≡ LogFault.OutOfMemory)) }
-        ensures faults { IfErr result (λ e. (e ≡ LogFault.Failed) ⊎ IsMigrationFault (length (ends_of self.old)) e) }
+            (λ e. (e ≡ DeviceFailed) ⊎ (e ≡ Failed) ⊎ (e ≡ OutOfMemory)) }
+        ensures faults { IfErr result (λ e. (e ≡ Failed) ⊎ IsMigrationFault (length (ends_of self.old)) e) }
         ensures honest { D.honest (disk_of self.old) ↔ D.honest (disk_of self.new) }
         ensures later { D.failures (disk_of self.old) ≤ D.failures (disk_of self.new) }
     {
@@ -386,48 +377,17 @@ impl<D: Disk> GateLog<D> {
         }
         match self.version {
             LogVersion::Second => Ok(0),
-            LogVersion::First => self.rewrite(alloc),
-        }
-    }
-
-    // The same of a log of the first version that hasn't failed.
-    fn rewrite(&mut self, alloc: Global) -> Result<u64, LogFault>
-        requires first { version_of self.old ≡ First }
-        requires working { ¬ HasFailed self.old }
-        ensures version { OnOk result (version_of self.new ≡ Second) }
-        ensures count { IfOk result (λ n. n ≡ length (ends_of self.old)) }
-        ensures files { D.honest (disk_of self.old)
-            → OnOk result (((D.reads (disk_of self.new)).journal ≡ (D.reads (disk_of self.old)).journal)
-            × ((D.reads (disk_of self.new)).gate ≡ [])
-            × ((D.reads (disk_of self.new)).slots
-            ≡ slots Second 0 (ends_of self.old) (D.reads (disk_of self.old)).journal ++ 0 ∷ [])) }
-        ensures ends { ends_of self.new ≡ ends_of self.old }
-        ensures same { D.honest (disk_of self.old) → entries_of self.new ≡ entries_of self.old }
-        ensures kept { OnErr result (version_of self.new ≡ version_of self.old) }
-        ensures any_moment { D.honest (disk_of self.old)
-            → LeavesOnly D.clock D.left_since (disk_of self.old) (disk_of self.new)
-            (λ c. Stands c (entries_of self.old)) }
-        ensures looks { IfErr result (λ e. (e ≡ LogFault.DeviceFailed)
-            ⊎ Looks D.honest D.reads D.may_leave D.clock D.left_since D.failures (disk_of self.old) (disk_of self.new)) }
-        ensures device { IsErrOf result LogFault.DeviceFailed
-            → Rose (D.failures (disk_of self.old)) (D.failures (disk_of self.new)) }
-        ensures working { HasFailed self.new ↔ IsErrOf result LogFault.DeviceFailed }
-        ensures due { D.honest (disk_of self.old) → IfErr result
-            (λ e. (e ≡ LogFault.DeviceFailed) ⊎ (e ≡ LogFault.OutOfMemory)) }
-        ensures faults { IfErr result (IsMigrationFault (length (ends_of self.old))) }
-        ensures honest { D.honest (disk_of self.old) ↔ D.honest (disk_of self.new) }
-        ensures later { D.failures (disk_of self.old) ≤ D.failures (disk_of self.new) }
-    {
-        match migrate(alloc, &mut self.disk, &self.ends) {
-            Ok(()) => {
-                self.version = LogVersion::Second;
-                Ok(self.ends.len() as u64)
-            }
-            Err(LogFault::DeviceFailed) => {
-                self.failed = true;
-                Err(LogFault::DeviceFailed)
-            }
-            Err(fault) => Err(fault),
+            LogVersion::First => match migrate(alloc, &mut self.disk, &self.ends) {
+                Ok(()) => {
+                    self.version = LogVersion::Second;
+                    Ok(self.ends.len() as u64)
+                }
+                Err(LogFault::DeviceFailed) => {
+                    self.failed = true;
+                    Err(LogFault::DeviceFailed)
+                }
+                Err(fault) => Err(fault),
+            },
         }
     }
 }

@@ -1,7 +1,7 @@
 //! The device calls of an append.
-ghost use Rattle.std.specs.Prelude.{◌≡◌, ◌≤◌, ◌<◌, ◌+◌, ◌*◌, ◌^◌, ◌++◌, ◌∷◌, ◌↔◌, [], length, OnOk};
-ghost use Rattle.fleet_disk.specs.Image.{Image, bytes_of};
-ghost use Rattle.fleet_disk.specs.Rules.{overwritten, Torn, OnFile, Follows, Elapses, Only, LeavesOnly, HasCause};
+ghost use Rattle.std.specs.Prelude.{◌≡◌, ◌≤◌, ◌<◌, ◌+◌, ◌^◌, ◌++◌, ◌∷◌, ◌↔◌, [], length, OnOk};
+ghost use Rattle.fleet_disk.specs.Rules.{overwritten, Torn, OnFile, Follows};
+ghost use Rattle.gate_log.specs.Device.{IsCaused, IsSafe, Leaves, Passes};
 ghost use Rattle.gate_log.specs.Slots.{mark, slots};
 ghost use Rattle.gate_log.specs.Standing.{last_end, IsRising, parts, IsAtRest, IsEither};
 ghost use Rattle.gate_log.specs.Version.{file_of, gates_of, others_of};
@@ -24,7 +24,7 @@ pub fn put_entry<D: Disk>(
     requires rising { IsRising 0 ends.now }
     requires fits { last_end 0 ends.now + length entry.now ≤ 2 ^ 56 }
     requires at_rest { D.honest disk.old → IsAtRest version ends.now (D.reads disk.old) }
-    requires durable { D.honest disk.old → Only (D.reads disk.old) (D.may_leave disk.old) }
+    requires durable { D.honest disk.old → IsSafe D.Disk disk.old }
 
     ensures at_rest { D.honest disk.old → OnOk result (IsAtRest version
         (ends.now ++ (last_end 0 ends.now + length entry.now) ∷ []) (D.reads disk.new)) }
@@ -38,11 +38,11 @@ pub fn put_entry<D: Disk>(
     ensures added { D.honest disk.old → OnOk result (parts 0 (ends.now ++ (last_end 0 ends.now + length entry.now) ∷ [])
         (D.reads disk.new).journal
         ≡ parts 0 ends.now (D.reads disk.old).journal ++ entry.now ∷ []) }
-    ensures durable { D.honest disk.old → OnOk result (Only (D.reads disk.new) (D.may_leave disk.new)) }
-    ensures any_moment { D.honest disk.old → LeavesOnly D.clock D.left_since disk.old disk.new
+    ensures durable { D.honest disk.old → OnOk result (IsSafe D.Disk disk.new) }
+    ensures any_moment { D.honest disk.old → Leaves D.Disk disk.old disk.new
         (IsEither (parts 0 ends.now (D.reads disk.old).journal) entry.now) }
     ensures honest { D.honest disk.old ↔ D.honest disk.new }
-    ensures cause { HasCause (D.failures disk.old) (D.failures disk.new) result }
+    ensures cause { IsCaused D.Disk disk.old disk.new result }
 {
     let start = end_of(ends);
     let end = start + entry.len() as u64;
@@ -68,10 +68,9 @@ fn write_slot<D: Disk>(
         new ≡ overwritten at (mark version end entry.now ++ 0 ∷ []) old) (D.reads disk.old) (D.reads disk.new)) }
     ensures left { D.honest disk.old → Follows (OnFile (file_of version)
         (Torn at (length (mark version end entry.now ++ 0 ∷ [])))) (D.may_leave disk.old) (D.may_leave disk.new) }
-    ensures time { D.honest disk.old → Elapses (D.clock disk.old) (D.clock disk.new) (D.left_since disk.old)
-        (D.left_since disk.new) (D.may_leave disk.new) }
+    ensures time { D.honest disk.old → Passes D.Disk disk.old disk.new }
     ensures honest { D.honest disk.old ↔ D.honest disk.new }
-    ensures cause { HasCause (D.failures disk.old) (D.failures disk.new) result }
+    ensures cause { IsCaused D.Disk disk.old disk.new result }
 {
     match version {
         LogVersion::First => disk.write_at(DiskFile::Gate, at, &closed_slot(end)),

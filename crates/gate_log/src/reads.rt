@@ -1,7 +1,9 @@
 //! Reads of a disk that go on until they have all that there is.
-ghost use Rattle.std.specs.Prelude.{◌≡◌, ◌⊎◌, ◌<◌, ◌≤◌, ◌+◌, ◌^◌, ℕ, length, slice_index_or, IfOk, IfErr, IsErrOf};
-ghost use Rattle.fleet_disk.specs.Image.{Image, bytes_of};
-ghost use Rattle.fleet_disk.specs.Rules.{HasCause, IsRead, Rose};
+ghost use Rattle.std.specs.Prelude.{◌≡◌, ◌<◌, ◌≤◌, ◌+◌, ◌^◌, ℕ, length, slice_index_or, IfOk, IfErr};
+ghost use Rattle.fleet_disk.specs.Image.{bytes_of};
+ghost use Rattle.fleet_disk.specs.Rules.{IsRead};
+ghost use Rattle.gate_log.specs.Device.{IsCaused, IsFailure};
+ghost use Rattle.gate_log.specs.Faults.{IsEntryFault, IsReadFault};
 ghost use Rattle.gate_log.specs.Looks.{Looks, IsFilled};
 ghost use Rattle.gate_log.specs.Slots.{part};
 
@@ -19,8 +21,8 @@ fn read_some<D: Disk>(
     ensures within { IfOk result (λ n. n ≤ length buf.old) }
     ensures bytes { D.honest disk.old → IfOk result (λ n. IsRead
         (bytes_of file (D.reads disk.old)) at n buf.old buf.new) }
-    ensures looks { Looks D.honest D.reads D.may_leave D.clock D.left_since D.failures disk.old disk.new }
-    ensures cause { HasCause (D.failures disk.old) (D.failures disk.new) result }
+    ensures looks { Looks D.Disk disk.old disk.new }
+    ensures cause { IsCaused D.Disk disk.old disk.new result }
 {
     disk.read(file, at, buf)
 }
@@ -28,8 +30,8 @@ fn read_some<D: Disk>(
 // How many bytes a file has.
 pub fn length_of<D: Disk>(disk: &mut D, file: DiskFile) -> Result<u64, DiskFault>
     ensures bytes { D.honest disk.old → IfOk result (λ n. n ≡ length (bytes_of file (D.reads disk.old))) }
-    ensures looks { Looks D.honest D.reads D.may_leave D.clock D.left_since D.failures disk.old disk.new }
-    ensures cause { HasCause (D.failures disk.old) (D.failures disk.new) result }
+    ensures looks { Looks D.Disk disk.old disk.new }
+    ensures cause { IsCaused D.Disk disk.old disk.new result }
 {
     disk.len(file)
 }
@@ -40,8 +42,8 @@ fn fill<D: Disk>(disk: &mut D, file: DiskFile, at: u64, buf: &mut [u8]) -> Resul
     ensures within { IfOk result (λ n. n ≤ length buf.old) }
     ensures bytes { D.honest disk.old → IfOk result (λ n. IsFilled
         (bytes_of file (D.reads disk.old)) at n buf.old buf.new) }
-    ensures looks { Looks D.honest D.reads D.may_leave D.clock D.left_since D.failures disk.old disk.new }
-    ensures cause { HasCause (D.failures disk.old) (D.failures disk.new) result }
+    ensures looks { Looks D.Disk disk.old disk.new }
+    ensures cause { IsCaused D.Disk disk.old disk.new result }
 {
     let mut done = 0;
     while done < buf.len() {
@@ -66,8 +68,8 @@ pub fn read_full<D: Disk>(
     ensures octets { (i : ℕ) → slice_index_or buf.new i 0 < 256 }
     ensures bytes { D.honest disk.old → IfOk result (λ n. IsFilled
         (bytes_of file (D.reads disk.old)) at n buf.old buf.new) }
-    ensures looks { Looks D.honest D.reads D.may_leave D.clock D.left_since D.failures disk.old disk.new }
-    ensures cause { HasCause (D.failures disk.old) (D.failures disk.new) result }
+    ensures looks { Looks D.Disk disk.old disk.new }
+    ensures cause { IsCaused D.Disk disk.old disk.new result }
 {
     fill(disk, file, at, buf)
 }
@@ -85,11 +87,10 @@ pub fn read_part<D: Disk>(
     ensures bytes { D.honest disk.old → end ≤ length (D.reads disk.old).journal
         → IfOk result (λ bytes. bytes.items ≡ part start end (D.reads disk.old).journal) }
     ensures due { D.honest disk.old → end ≤ length (D.reads disk.old).journal
-        → IfErr result (λ e. (e ≡ LogFault.DeviceFailed) ⊎ (e ≡ LogFault.OutOfMemory)) }
-    ensures device { IsErrOf result LogFault.DeviceFailed → Rose (D.failures disk.old) (D.failures disk.new) }
-    ensures no_other { IfErr result (λ e. (e ≡ LogFault.DeviceFailed) ⊎ (e ≡ LogFault.Damaged entry)
-        ⊎ (e ≡ LogFault.OutOfMemory)) }
-    ensures looks { Looks D.honest D.reads D.may_leave D.clock D.left_since D.failures disk.old disk.new }
+        → IfErr result IsReadFault }
+    ensures device { IsFailure D.Disk disk.old disk.new result }
+    ensures no_other { IfErr result (IsEntryFault entry) }
+    ensures looks { Looks D.Disk disk.old disk.new }
 {
     let size = (end - start) as usize;
     let mut bytes = vec![in alloc; 0u8; size]?;

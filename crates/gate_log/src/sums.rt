@@ -1,9 +1,8 @@
 //! The sums of entries.
-ghost use Rattle.std.specs.Prelude.{◌≡◌, ◌⊎◌, ◌<◌, ◌≤◌, ◌+◌, ◌-◌, ◌^◌, ◌↔◌, length, take, drop, IsTrue, IfOk, IfErr};
-ghost use Rattle.std.specs.Prelude.{IsErrOf};
+ghost use Rattle.std.specs.Prelude.{◌≡◌, ◌<◌, ◌≤◌, ◌+◌, ◌-◌, ◌^◌, ◌↔◌, length, take, drop, IsTrue, IfOk, IfErr};
 ghost use Rattle.md5.specs.Md5.{md5};
-ghost use Rattle.fleet_disk.specs.Image.{Image};
-ghost use Rattle.fleet_disk.specs.Rules.{HasCause, Rose};
+ghost use Rattle.gate_log.specs.Device.{IsCaused, IsFailure};
+ghost use Rattle.gate_log.specs.Faults.{IsEntryFault, IsReadFault};
 ghost use Rattle.gate_log.specs.Looks.{Looks};
 ghost use Rattle.gate_log.specs.Slots.{part, sum_size};
 ghost use Rattle.gate_log.specs.Version.{gates_of, sum_of};
@@ -35,11 +34,10 @@ pub fn sum_of_part<D: Disk>(
     ensures sum { D.honest disk.old → end ≤ length (D.reads disk.old).journal
         → IfOk result (λ sum. sum ≡ md5 (part start end (D.reads disk.old).journal)) }
     ensures due { D.honest disk.old → end ≤ length (D.reads disk.old).journal
-        → IfErr result (λ e. (e ≡ LogFault.DeviceFailed) ⊎ (e ≡ LogFault.OutOfMemory)) }
-    ensures device { IsErrOf result LogFault.DeviceFailed → Rose (D.failures disk.old) (D.failures disk.new) }
-    ensures no_other { IfErr result (λ e. (e ≡ LogFault.DeviceFailed) ⊎ (e ≡ LogFault.Damaged entry)
-        ⊎ (e ≡ LogFault.OutOfMemory)) }
-    ensures looks { Looks D.honest D.reads D.may_leave D.clock D.left_since D.failures disk.old disk.new }
+        → IfErr result IsReadFault }
+    ensures device { IsFailure D.Disk disk.old disk.new result }
+    ensures no_other { IfErr result (IsEntryFault entry) }
+    ensures looks { Looks D.Disk disk.old disk.new }
 {
     let bytes = read_part(alloc, disk, entry, start, end)?;
     Ok(sum_of_entry(&bytes))
@@ -62,11 +60,10 @@ pub fn has_sum<D: Disk>(
         → IfOk result (λ has. IsTrue has ↔ (take (sum_size version) (drop at (gates_of version (D.reads disk.old)))
         ≡ sum_of version (part start end (D.reads disk.old).journal))) }
     ensures due { D.honest disk.old → end ≤ length (D.reads disk.old).journal
-        → IfErr result (λ e. (e ≡ LogFault.DeviceFailed) ⊎ (e ≡ LogFault.OutOfMemory)) }
-    ensures device { IsErrOf result LogFault.DeviceFailed → Rose (D.failures disk.old) (D.failures disk.new) }
-    ensures no_other { IfErr result (λ e. (e ≡ LogFault.DeviceFailed) ⊎ (e ≡ LogFault.Damaged entry)
-        ⊎ (e ≡ LogFault.OutOfMemory)) }
-    ensures looks { Looks D.honest D.reads D.may_leave D.clock D.left_since D.failures disk.old disk.new }
+        → IfErr result IsReadFault }
+    ensures device { IsFailure D.Disk disk.old disk.new result }
+    ensures no_other { IfErr result (IsEntryFault entry) }
+    ensures looks { Looks D.Disk disk.old disk.new }
 {
     match version {
         LogVersion::First => Ok(true),
@@ -90,11 +87,10 @@ fn is_sum_at<D: Disk>(
         → IfOk result (λ has. IsTrue has ↔ (take 16 (drop at (D.reads disk.old).slots)
         ≡ md5 (part start end (D.reads disk.old).journal))) }
     ensures due { D.honest disk.old → end ≤ length (D.reads disk.old).journal
-        → IfErr result (λ e. (e ≡ LogFault.DeviceFailed) ⊎ (e ≡ LogFault.OutOfMemory)) }
-    ensures device { IsErrOf result LogFault.DeviceFailed → Rose (D.failures disk.old) (D.failures disk.new) }
-    ensures no_other { IfErr result (λ e. (e ≡ LogFault.DeviceFailed) ⊎ (e ≡ LogFault.Damaged entry)
-        ⊎ (e ≡ LogFault.OutOfMemory)) }
-    ensures looks { Looks D.honest D.reads D.may_leave D.clock D.left_since D.failures disk.old disk.new }
+        → IfErr result IsReadFault }
+    ensures device { IsFailure D.Disk disk.old disk.new result }
+    ensures no_other { IfErr result (IsEntryFault entry) }
+    ensures looks { Looks D.Disk disk.old disk.new }
 {
     let there = read_sum(disk, at)?;
     let wanted = sum_of_part(alloc, disk, entry, start, end)?;
@@ -106,8 +102,8 @@ fn read_sum<D: Disk>(disk: &mut D, at: u64) -> Result<[u8; SUM_BYTES], DiskFault
     requires { at + 16 < 2 ^ 64 }
     ensures sum { D.honest disk.old → at + 16 ≤ length (D.reads disk.old).slots
         → IfOk result (λ sum. take 16 (drop at (D.reads disk.old).slots) ≡ sum) }
-    ensures looks { Looks D.honest D.reads D.may_leave D.clock D.left_since D.failures disk.old disk.new }
-    ensures cause { HasCause (D.failures disk.old) (D.failures disk.new) result }
+    ensures looks { Looks D.Disk disk.old disk.new }
+    ensures cause { IsCaused D.Disk disk.old disk.new result }
 {
     let mut sum = [0; SUM_BYTES];
     read_full(disk, DiskFile::Slots, at, &mut sum)?;

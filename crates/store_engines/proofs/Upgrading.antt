@@ -100,7 +100,7 @@ pub upgrade_refused : {D : Type 0} {G : Ghosts D} (old : RepoStore D G) (back : 
     → (G.honest (disk_of old) → ¬ HasFailed old → (image : Image) → G.may_leave back image → Keeps (repository_of old) image)
     → (f ≡ Log log.DeviceFailed → Rose (G.failures (disk_of old)) (G.failures back)) → (f ≡ Log log.Failed) ↔ HasFailed old
     → (G.honest (disk_of old) → (f ≡ Log log.DeviceFailed) ⊎ (f ≡ Log log.Failed) ⊎ (f ≡ Log log.OutOfMemory)) → (HasFailed old → back ≡ disk_of old)
-    → (f ≡ Log log.DeviceFailed) ⊎ (f ≡ Log log.Failed) ⊎ Looks G.honest G.reads G.may_leave G.clock G.left_since G.failures (disk_of old) back → NotUpgraded before before fails e old back
+    → (f ≡ Log log.DeviceFailed) ⊎ (f ≡ Log log.Failed) ⊎ Looks G (disk_of old) back → NotUpgraded before before fails e old back
 upgrade_refused old back f e before fails is no_peer both later moment kept device failed due stays looks = record {
   spared = record { honest = both; later = later; any_moment = moment };
   due = λ h. due_of f e is (due h);

@@ -54,7 +54,7 @@ pub record NotUpgraded {D : Type 0} {G : Ghosts D} (before now : Option (List �
   pub due : G.honest (disk_of old) → (e ≡ refusal.DeviceFailed) ⊎ (e ≡ refusal.Failed) ⊎ (e ≡ refusal.OutOfMemory) ⊎ (e ≡ refusal.PeerFailed)
   pub device : e ≡ refusal.DeviceFailed → Rose (G.failures (disk_of old)) (G.failures back)
   pub failed : e ≡ refusal.Failed → HasFailed old × (back ≡ disk_of old)
-  pub looks : e ≡ refusal.OutOfMemory → Looks G.honest G.reads G.may_leave G.clock G.left_since G.failures (disk_of old) back
+  pub looks : e ≡ refusal.OutOfMemory → Looks G (disk_of old) back
   pub quiet : e ≢ refusal.PeerFailed → now ≡ before
   pub unsaid : e ≡ refusal.PeerFailed → fails
   pub done : e ≡ refusal.PeerFailed → G.honest (disk_of old) → ¬ HasFailed old → (image : Image) → G.may_leave back image → HasSums old image

@@ -47,7 +47,7 @@ loop-at-preserved g c =
     let order = subst (λ (o : Option ℕ). IfSome o (λ (e : ℕ). c.loop-at.last < e)) c.in-Some.is c.in-Ok.ensures.order in
     let within = subst (λ (o : Option ℕ). IfSome o (λ (e : ℕ). e ≤ c.args.lengths.now.journal)) c.in-Some.is c.in-Ok.ensures.within in
     record {
-      looks = looks_more D.honest D.reads D.may_leave D.clock D.left_since D.failures g.met.D.Disk.only_now c.args.disk.now c.loop-at.disk c.next_end.new.disk so_far.looks c.next_end.ensures.looks;
+      looks = looks_more D g.met.D.Disk.only_now c.args.disk.now c.loop-at.disk c.next_end.new.disk so_far.looks c.next_end.ensures.looks;
       place = omega (arith, so_far.place, size, place_push v ends end, ap (λ (l : List ℕ). gate_place v (length l)) items);
       next = λ some. omega (arith, room, size);
       last = sym (ap (λ (l : List ℕ). last_end 0 l) items ∙ last_end_push 0 ends end);

@@ -7,7 +7,7 @@ use Rattle.gate_log.proofs.find.find_ends.Given as goal
 
 abbrev pub invariant-loop-at : goal.invariant-loop-at
 invariant-loop-at g l = record {
-  looks : Looks g.D.Disk.honest g.D.Disk.reads g.D.Disk.may_leave g.D.Disk.clock g.D.Disk.left_since g.D.Disk.failures l.fn.disk l.disk;
+  looks : Looks g.D.Disk l.fn.disk l.disk;
   place : l.at ≡ gate_place l.lengths.version (length l.ends.items);
   next : 0 < length l.ends.items → l.at < l.lengths.gates;
   last : l.last ≡ last_end 0 l.ends.items;

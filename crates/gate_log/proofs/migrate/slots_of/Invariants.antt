@@ -7,7 +7,7 @@ use Rattle.gate_log.proofs.migrate.slots_of.Given as goal
 
 abbrev pub invariant-loop-entry : goal.invariant-loop-entry
 invariant-loop-entry g l = record {
-  looks : Looks g.D.Disk.honest g.D.Disk.reads g.D.Disk.may_leave g.D.Disk.clock g.D.Disk.left_since g.D.Disk.failures l.fn.disk l.disk;
+  looks : Looks g.D.Disk l.fn.disk l.disk;
   start : l.start ≡ last_end 0 (take l.entry l.ends);
   bytes : g.D.Disk.honest l.fn.disk → last_end 0 l.ends ≤ length (g.D.Disk.reads l.fn.disk).journal → l.bytes.items ≡ slots Second 0 (take l.entry l.ends) (g.D.Disk.reads l.fn.disk).journal;
 }

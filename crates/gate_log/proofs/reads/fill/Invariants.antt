@@ -7,7 +7,7 @@ abbrev pub invariant-loop-done : goal.invariant-loop-done
 invariant-loop-done g l = record {
   within : l.done ≤ length l.buf;
   same_length : length l.buf ≡ length l.fn.buf;
-  looks : Looks g.D.Disk.honest g.D.Disk.reads g.D.Disk.may_leave g.D.Disk.clock g.D.Disk.left_since g.D.Disk.failures l.fn.disk l.disk;
+  looks : Looks g.D.Disk l.fn.disk l.disk;
   inside : g.D.Disk.honest l.fn.disk → l.done ≤ length (bytes_of l.file (g.D.Disk.reads l.fn.disk)) - l.at;
   bytes : g.D.Disk.honest l.fn.disk → l.buf ≡ take l.done (drop l.at (bytes_of l.file (g.D.Disk.reads l.fn.disk))) ++ drop l.done l.fn.buf;
 }

@@ -1,0 +1,36 @@
+-- What a call does to the disk that it is made on: the rules of a disk, said of a disk and the one that it becomes.
+use Rattle.std.specs.Prelude.{Result, IsErrOf}
+use Rattle.fleet_disk.specs.Image.{Image}
+use Rattle.fleet_disk.specs.Rules.{Elapses, HasCause, LeavesOnly, Only, Rose, Settles}
+use Rattle.fleet_disk.specs.declared.disk.Disk.{Ghosts}
+use Rattle.fleet_disk.specs.declared.disk.DiskFault.{DiskFault}
+use Rattle.gate_log.specs.declared.fault.LogFault.{LogFault}
+use Rattle.gate_log.specs.declared.fault.LogFault.TheVariants.{DeviceFailed}
+
+-- a stop leaves what a read gives, and nothing else
+abbrev pub IsSafe : {D : Type 0} → Ghosts D → D → Type 0
+IsSafe G disk = Only (G.reads disk) (G.may_leave disk)
+
+-- each image that a stop may leave now has P
+abbrev pub LeavesNow : {D : Type 0} → Ghosts D → D → (Image → Type 0) → Type 0
+LeavesNow G disk P = (image : Image) → G.may_leave disk image → P image
+
+-- time goes on
+abbrev pub Passes : {D : Type 0} → Ghosts D → D → D → Type 0
+Passes G old new = Elapses (G.clock old) (G.clock new) (G.left_since old) (G.left_since new) (G.may_leave new)
+
+-- a stop at any moment leaves an image that has P
+abbrev pub Leaves : {D : Type 0} → Ghosts D → D → D → (Image → Type 0) → Type 0
+Leaves G old new P = LeavesOnly G.clock G.left_since old new P
+
+-- from some moment on a stop leaves an image that has P, and up to there what it could leave at first
+abbrev pub SettlesAs : {D : Type 0} → Ghosts D → D → D → (Image → Type 0) → Type 0
+SettlesAs G old new P = Settles G.may_leave G.clock G.left_since old new P
+
+-- the count of failures doesn't fall, and a refusal comes only where it rose
+abbrev pub IsCaused : {D T : Type 0} → Ghosts D → D → D → Result T DiskFault → Type 0
+IsCaused G old new result = HasCause (G.failures old) (G.failures new) result
+
+-- 31 comes only where the count of failures rose
+abbrev pub IsFailure : {D T : Type 0} → Ghosts D → D → D → Result T LogFault → Type 0
+IsFailure G old new result = IsErrOf result DeviceFailed → Rose (G.failures old) (G.failures new)
