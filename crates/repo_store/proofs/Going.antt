@@ -3,28 +3,27 @@ use Rattle.std.proofs.Common.{◌≡◌, ◌≤◌, ◌+◌, ◌↔◌, ℕ, Lis
 use Rattle.std.proofs.lemmas.List.{take_more}
 use Rattle.std.proofs.lemmas.Option.{slice_get_within, get_or_from_slice_get}
 use Rattle.fleet_disk.specs.Image.{Image}
-use Rattle.fleet_disk.specs.Rules.{LeavesOnly, Rose, Within}
-use Rattle.fleet_disk.proofs.Moments.{joined}
+use Rattle.fleet_disk.specs.Rules.{Rose}
+use Rattle.fleet_disk.specs.declared.disk.Disk.{Ghosts}
+use Rattle.gate_log.specs.Log.{disk_of, ends_of, entries_of, LooksIn}
+use Rattle.gate_log.specs.Standing.{parts}
+use Rattle.gate_log.specs.declared.log.GateLog.{GateLog}
+use Rattle.gate_log.proofs.Looking.{looks_more}
 use Rattle.repo_core.specs.Repository.{Repository}
 use Rattle.repo_core.specs.Entries.{with_entry_in}
 use Rattle.repo_core.specs.declared.entry.Entry.{Entry}
 use Rattle.repo_store.specs.Journal.{Spells, Takes}
 
--- a disk is looked at
-pub record Goes {D : Type 0} (honest : D → Type 0) (may_leave : D → Image → Type 0) (clock : D → ℕ) (left_since : D → ℕ → Image → Type 0) (failures : D → ℕ) (old new : D) : Type 0 where
-  pub both_ways : honest old ↔ honest new
-  pub inside : honest old → Within (may_leave new) (may_leave old)
-  pub moments : honest old → LeavesOnly clock left_since old new (may_leave old)
-  pub later : failures old ≤ failures new
+-- a log that is only looked in has the entries that it had
+pub same_entries : {D : Type 0} {G : Ghosts D} (old new : GateLog D G) → LooksIn old new → G.honest (disk_of old) → entries_of new ≡ entries_of old
+same_entries {G} old new it h = ap (λ (ends : List ℕ). parts 0 ends (G.reads (disk_of new)).journal) it.ends ∙ ap (λ (i : Image). parts 0 (ends_of old) i.journal) (it.looks.same h)
 
--- once more
-pub goes_on : {D : Type 0} (honest : D → Type 0) (may_leave : D → Image → Type 0) (clock : D → ℕ) (left_since : D → ℕ → Image → Type 0) (failures : D → ℕ) (old mid new : D)
-    → Goes honest may_leave clock left_since failures old mid → Goes honest may_leave clock left_since failures mid new → Goes honest may_leave clock left_since failures old new
-goes_on honest may_leave clock left_since failures old mid new first then = record {
-  both_ways = (λ h. then.both_ways.0 (first.both_ways.0 h), λ h. first.both_ways.1 (then.both_ways.1 h));
-  inside = λ h c left. first.inside h c (then.inside (first.both_ways.0 h) c left);
-  moments = λ h. joined clock left_since old mid new (may_leave old) (may_leave mid) (first.moments h) (then.moments (first.both_ways.0 h)) (λ c left. first.inside h c left);
-  later = omega (arith, first.later, then.later);
+-- and once more
+pub looked_in : {D : Type 0} {G : Ghosts D} → ((disk : D) (c : Image) → G.honest disk → G.left_since disk (G.clock disk) c → G.may_leave disk c) → (old mid new : GateLog D G) → LooksIn old mid → LooksIn mid new → LooksIn old new
+looked_in {G} only_now old mid new first then = record {
+  ends = then.ends ∙ first.ends;
+  version = then.version ∙ first.version;
+  looks = looks_more G only_now (disk_of old) (disk_of mid) (disk_of new) first.looks then.looks;
 }
 
 -- a count that rose later rose

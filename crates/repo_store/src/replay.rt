@@ -1,14 +1,14 @@
 //! The repository that a journal's entries stand for.
-ghost use Rattle.std.specs.Prelude.{◌≡◌, ◌<◌, ◌≤◌, ◌+◌, ◌⊎◌, ◌↔◌, ℕ, List, [], map};
-ghost use Rattle.std.specs.Prelude.{length, slice_get, take, Some};
+ghost use Rattle.std.specs.Prelude.{◌≡◌, ◌<◌, ◌+◌, ℕ, List, map};
+ghost use Rattle.std.specs.Prelude.{length, slice_get, Some};
 ghost use Rattle.std.specs.Prelude.{None, IfOk, IfErr, OnOk, IsErrOf};
 ghost use Rattle.std.specs.Option.{option_map};
 ghost use Rattle.node_base.specs.Props.{PropMap};
 ghost use Rattle.dump_load.specs.Bounds.{IsBounded};
 ghost use Rattle.dump_load.specs.Changes.{IsSet};
 ghost use Rattle.dump_load.specs.Records.{change_of};
-ghost use Rattle.fleet_disk.specs.Rules.{LeavesOnly, Rose, Within};
-ghost use Rattle.gate_log.specs.Log.{disk_of, ends_of, entries_of, version_of, HasFailed};
+ghost use Rattle.gate_log.specs.Device.{IsFailure};
+ghost use Rattle.gate_log.specs.Log.{disk_of, ends_of, entries_of, HasFailed, LooksIn};
 ghost use Rattle.gate_log.specs.declared.fault.LogFault.TheVariants as log_fault;
 ghost use Rattle.repo_core.specs.Repository.{Revision, Repository, fresh};
 ghost use Rattle.repo_core.specs.Entries.{with_entry_in};
@@ -164,19 +164,10 @@ fn read_next<D: Disk>(
     ensures breaks { D.honest (disk_of log.old) → (k : ℕ) → IsErrOf result (log_fault.Damaged k)
         → (bytes : List ℕ) (e : EntryOf) → slice_get (entries_of log.old) entry ≡ Some bytes → Spells bytes e
         → Takes repo.old.revisions e → ⊥ }
-    ensures same { D.honest (disk_of log.old) → entries_of log.new ≡ entries_of log.old }
-    ensures ends { ends_of log.new ≡ ends_of log.old }
-    ensures version { version_of log.new ≡ version_of log.old }
-    ensures inside { D.honest (disk_of log.old)
-        → Within (D.may_leave (disk_of log.new)) (D.may_leave (disk_of log.old)) }
-    ensures any_moment { D.honest (disk_of log.old)
-        → LeavesOnly D.clock D.left_since (disk_of log.old) (disk_of log.new) (D.may_leave (disk_of log.old)) }
-    ensures device { IsErrOf result log_fault.DeviceFailed
-        → Rose (D.failures (disk_of log.old)) (D.failures (disk_of log.new)) }
+    ensures looks { LooksIn log.old log.new }
+    ensures device { IsFailure D.Disk (disk_of log.old) (disk_of log.new) result }
     ensures working { OnOk result (¬ HasFailed log.new) }
     ensures no_other { IfErr result IsReplayFault }
-    ensures honest { D.honest (disk_of log.old) ↔ D.honest (disk_of log.new) }
-    ensures later { D.failures (disk_of log.old) ≤ D.failures (disk_of log.new) }
 {
     let bytes = log.read_entry(alloc, entry)?;
     match take_entry(alloc, repo, &bytes, written) {
@@ -197,19 +188,10 @@ fn read_first<D: Disk>(alloc: Global, log: &mut GateLog<D>) -> Result<Repo, LogF
     ensures breaks { D.honest (disk_of log.old) → (k : ℕ) → IsErrOf result (log_fault.Damaged k)
         → (bytes identity : List ℕ) (props : PropMap) → slice_get (entries_of log.old) 0 ≡ Some bytes
         → IsBeginning bytes identity props → ⊥ }
-    ensures same { D.honest (disk_of log.old) → entries_of log.new ≡ entries_of log.old }
-    ensures ends { ends_of log.new ≡ ends_of log.old }
-    ensures version { version_of log.new ≡ version_of log.old }
-    ensures inside { D.honest (disk_of log.old)
-        → Within (D.may_leave (disk_of log.new)) (D.may_leave (disk_of log.old)) }
-    ensures any_moment { D.honest (disk_of log.old)
-        → LeavesOnly D.clock D.left_since (disk_of log.old) (disk_of log.new) (D.may_leave (disk_of log.old)) }
-    ensures device { IsErrOf result log_fault.DeviceFailed
-        → Rose (D.failures (disk_of log.old)) (D.failures (disk_of log.new)) }
+    ensures looks { LooksIn log.old log.new }
+    ensures device { IsFailure D.Disk (disk_of log.old) (disk_of log.new) result }
     ensures working { OnOk result (¬ HasFailed log.new) }
     ensures no_other { IfErr result IsReplayFault }
-    ensures honest { D.honest (disk_of log.old) ↔ D.honest (disk_of log.new) }
-    ensures later { D.failures (disk_of log.old) ≤ D.failures (disk_of log.new) }
 {
     let bytes = log.read_entry(alloc, 0)?;
     match begin(alloc, &bytes) {
@@ -225,19 +207,10 @@ pub fn replay<D: Disk>(alloc: Global, log: &mut GateLog<D>) -> Result<Repo, LogF
     ensures told { D.honest (disk_of log.old) → IfOk result (λ r. Tell (entries_of log.old) r) }
     ensures damaged { D.honest (disk_of log.old) → (k : ℕ) → IsErrOf result (log_fault.Damaged k)
         → IsFirstBad k (entries_of log.old) }
-    ensures same { D.honest (disk_of log.old) → entries_of log.new ≡ entries_of log.old }
-    ensures ends { ends_of log.new ≡ ends_of log.old }
-    ensures version { version_of log.new ≡ version_of log.old }
-    ensures inside { D.honest (disk_of log.old)
-        → Within (D.may_leave (disk_of log.new)) (D.may_leave (disk_of log.old)) }
-    ensures any_moment { D.honest (disk_of log.old)
-        → LeavesOnly D.clock D.left_since (disk_of log.old) (disk_of log.new) (D.may_leave (disk_of log.old)) }
-    ensures device { IsErrOf result log_fault.DeviceFailed
-        → Rose (D.failures (disk_of log.old)) (D.failures (disk_of log.new)) }
+    ensures looks { LooksIn log.old log.new }
+    ensures device { IsFailure D.Disk (disk_of log.old) (disk_of log.new) result }
     ensures working { OnOk result (¬ HasFailed log.new) }
     ensures no_other { IfErr result IsReplayFault }
-    ensures honest { D.honest (disk_of log.old) ↔ D.honest (disk_of log.new) }
-    ensures later { D.failures (disk_of log.old) ≤ D.failures (disk_of log.new) }
 {
     dumps_are_read();
     let mut repo = read_first(alloc, log)?;

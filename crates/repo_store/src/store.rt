@@ -5,7 +5,8 @@ ghost use Rattle.std.specs.Prelude.{IsTrue, Some, None, is_some, IfOk, IfErr, On
 ghost use Rattle.std.specs.Option.{option_copied};
 ghost use Rattle.std.specs.FinMap as finite;
 ghost use Rattle.fleet_disk.specs.Image.{Image, no_bytes};
-ghost use Rattle.fleet_disk.specs.Rules.{LeavesOnly, Only, Rose};
+ghost use Rattle.fleet_disk.specs.Rules.{Only, Rose};
+ghost use Rattle.gate_log.specs.Device.{Leaves, LeavesNow};
 ghost use Rattle.gate_log.specs.Log.{entries_of, version_of, disk_of as log_disk, HasFailed as LogFailed};
 ghost use Rattle.gate_log.specs.Looks.{Looks};
 ghost use Rattle.gate_log.specs.Standing.{HasNoEntry, IsBlank, IsEither, Stands, StandsAlike};
@@ -60,19 +61,18 @@ impl<D: Disk> RepoStore<D> {
         ensures made { IfOk result (λ store. repository_of store ≡ fresh identity) }
         ensures version { IfOk result (λ store. version_of (log_of store) ≡ Second) }
         ensures working { IfOk result (λ store. ¬ HasFailed store) }
-        ensures durable { D.honest disk → IfOk result (λ store. (image : Image) → D.may_leave (disk_of store) image
-            → Keeps (fresh identity) image) }
+        ensures durable { D.honest disk → IfOk result (λ store. LeavesNow D.Disk (disk_of store) (Keeps (fresh identity))) }
         ensures first { D.honest disk → IfOk result (λ store. (image : Image) → D.may_leave (disk_of store) image
             → Stands image (beginning_of identity ∷ [])) }
         ensures written { D.honest disk → IfOk result (λ store. entries_of (log_of store)
             ≡ beginning_of identity ∷ []) }
         ensures any_moment { D.honest disk → Only no_bytes (D.may_leave disk) → IfOk result (λ store.
-            LeavesOnly D.clock D.left_since disk (disk_of store)
+            Leaves D.Disk disk (disk_of store)
             (λ c. IsBlank c ⊎ IsEither [] (beginning_of identity) c)) }
         ensures any_moment_err { D.honest disk → Only no_bytes (D.may_leave disk) → IfErr result (λ e.
-            LeavesOnly D.clock D.left_since disk e.1 (λ c. IsBlank c ⊎ IsEither [] (beginning_of identity) c)) }
+            Leaves D.Disk disk e.1 (λ c. IsBlank c ⊎ IsEither [] (beginning_of identity) c)) }
         ensures looks { D.honest disk → D.reads disk ≢ no_bytes
-            → IfErr result (λ e. Looks D.honest D.reads D.may_leave D.clock D.left_since D.failures disk e.1) }
+            → IfErr result (λ e. Looks D.Disk disk e.1) }
         ensures empty { D.honest disk → OnOk result (D.reads disk ≡ no_bytes) }
         ensures there { D.honest disk → IfErr result (λ e. e.0 ≡ refusal.Log log.ThereAlready
             → D.reads disk ≢ no_bytes) }
@@ -114,8 +114,7 @@ impl<D: Disk> RepoStore<D> {
             (D.reads disk)) }
         ensures keeps { D.honest disk → IfOk result (λ store. Keeps (repository_of store) (D.reads disk)) }
         ensures working { IfOk result (λ store. ¬ HasFailed store) }
-        ensures durable { D.honest disk → IfOk result (λ store. (image : Image) → D.may_leave (disk_of store) image
-            → Keeps (repository_of store) image) }
+        ensures durable { D.honest disk → IfOk result (λ store. LeavesNow D.Disk (disk_of store) (Keeps (repository_of store))) }
         ensures found { D.honest disk → (identity : List ℕ) (x : List Revision)
             → ReopensTo identity x (D.reads disk)
             → IfOk result (λ store. (identity_of store ≡ identity) × (revisions_of store ≡ x)) }
@@ -134,15 +133,15 @@ impl<D: Disk> RepoStore<D> {
             → Rose (D.failures disk) (D.failures e.1)) }
         ensures no_other { IfErr result (λ e. IsOpenFault e.0) }
         ensures any_moment { D.honest disk
-            → IfOk result (λ store. LeavesOnly D.clock D.left_since disk (disk_of store)
+            → IfOk result (λ store. Leaves D.Disk disk (disk_of store)
             (λ c. D.may_leave disk c ⊎ KeepsAlike (D.reads disk) c)) }
-        ensures any_moment_err { D.honest disk → IfErr result (λ e. LeavesOnly D.clock D.left_since disk e.1
+        ensures any_moment_err { D.honest disk → IfErr result (λ e. Leaves D.Disk disk e.1
             (λ c. D.may_leave disk c ⊎ KeepsAlike (D.reads disk) c)) }
         ensures version { D.honest disk → IfOk result (λ store. IsOf (version_of (log_of store)) (D.reads disk)) }
         ensures version_stays { D.honest disk
-            → IfOk result (λ store. LeavesOnly D.clock D.left_since disk (disk_of store)
+            → IfOk result (λ store. Leaves D.Disk disk (disk_of store)
             (λ c. D.may_leave disk c ⊎ HaveOneVersion (D.reads disk) c)) }
-        ensures version_stays_err { D.honest disk → IfErr result (λ e. LeavesOnly D.clock D.left_since disk e.1
+        ensures version_stays_err { D.honest disk → IfErr result (λ e. Leaves D.Disk disk e.1
             (λ c. D.may_leave disk c ⊎ HaveOneVersion (D.reads disk) c)) }
         ensures kept { D.honest disk → IfErr result (λ e. (e.0 ≡ refusal.Log log.DeviceFailed) ⊎ ((image : Image)
             → D.may_leave e.1 image → (image ≡ D.reads disk) ⊎ StandsAlike (D.reads disk) image)) }
@@ -168,12 +167,10 @@ impl<D: Disk> RepoStore<D> {
     /// The repository, as its calls so far have left it.
     pub fn repo(&self) -> &Repo
         ensures value { result.now ≡ repository_of self.now }
-        ensures stands { D.honest (disk_of self.now) → ¬ HasFailed self.now → (image : Image)
-            → D.may_leave (disk_of self.now) image
-            → ReopensTo (identity_of self.now) (revisions_of self.now) image }
-        ensures keeps { D.honest (disk_of self.now) → ¬ HasFailed self.now → (image : Image)
-            → D.may_leave (disk_of self.now) image
-            → Keeps (repository_of self.now) image }
+        ensures stands { D.honest (disk_of self.now) → ¬ HasFailed self.now
+            → LeavesNow D.Disk (disk_of self.now) (ReopensTo (identity_of self.now) (revisions_of self.now)) }
+        ensures keeps { D.honest (disk_of self.now) → ¬ HasFailed self.now
+            → LeavesNow D.Disk (disk_of self.now) (Keeps (repository_of self.now)) }
         ensures kept { IsKept self.now }
         ensures doubted { HasFailed self.now ↔ IsTrue (is_some (doubt_of self.now)) }
     {

@@ -1,7 +1,8 @@
 //! A store that is made one of the second version.
 ghost use Rattle.std.specs.Prelude.{◌≡◌, ◌≤◌, ◌↔◌, ◌⊎◌, length, IfOk, IfErr, IsErrAnd};
 ghost use Rattle.fleet_disk.specs.Image.{Image};
-ghost use Rattle.fleet_disk.specs.Rules.{LeavesOnly, Rose};
+ghost use Rattle.fleet_disk.specs.Rules.{Rose};
+ghost use Rattle.gate_log.specs.Device.{Leaves, LeavesNow};
 ghost use Rattle.gate_log.specs.Log.{entries_of, version_of};
 ghost use Rattle.gate_log.specs.Looks.{Looks};
 ghost use Rattle.gate_log.specs.Standing.{Stands};
@@ -23,8 +24,7 @@ impl<D: Disk> RepoStore<D> {
     /// Which version its log has. While no call has failed each image that a stop may leave has that.
     pub fn version(&self) -> LogVersion
         ensures version { result ≡ version_of (log_of self.now) }
-        ensures stand { D.honest (disk_of self.now) → ¬ HasFailed self.now → (image : Image)
-            → D.may_leave (disk_of self.now) image → IsOf result image }
+        ensures stand { D.honest (disk_of self.now) → ¬ HasFailed self.now → LeavesNow D.Disk (disk_of self.now) (IsOf result) }
     {
         self.log.version()
     }
@@ -48,19 +48,16 @@ impl<D: Disk> RepoStore<D> {
         ensures working { IfOk result (λ done. ¬ HasFailed done.0) }
         ensures stand { D.honest (disk_of self) → ¬ HasFailed self → IfOk result (λ done. (image : Image)
             → D.may_leave (disk_of done.0) image → Stands image (entries_of (log_of self))) }
-        ensures second { D.honest (disk_of self) → IfOk result (λ done. (image : Image)
-            → D.may_leave (disk_of done.0) image → IsOf Second image) }
-        ensures durable { D.honest (disk_of self) → IfOk result (λ done. (image : Image)
-            → D.may_leave (disk_of done.0) image → Keeps (repository_of self) image) }
+        ensures second { D.honest (disk_of self) → IfOk result (λ done. LeavesNow D.Disk (disk_of done.0) (IsOf Second)) }
+        ensures durable { D.honest (disk_of self) → IfOk result (λ done. LeavesNow D.Disk (disk_of done.0) (Keeps (repository_of self))) }
         ensures any_moment { D.honest (disk_of self) → ¬ HasFailed self → IfOk result (λ done.
-            LeavesOnly D.clock D.left_since (disk_of self) (disk_of done.0) (Keeps (repository_of self))) }
+            Leaves D.Disk (disk_of self) (disk_of done.0) (Keeps (repository_of self))) }
         ensures any_moment_err { D.honest (disk_of self) → ¬ HasFailed self → IfErr result (λ e.
-            LeavesOnly D.clock D.left_since (disk_of self) e.1 (Keeps (repository_of self))) }
-        ensures kept { D.honest (disk_of self) → ¬ HasFailed self → IfErr result (λ e. (image : Image)
-            → D.may_leave e.1 image → Keeps (repository_of self) image) }
+            Leaves D.Disk (disk_of self) e.1 (Keeps (repository_of self))) }
+        ensures kept { D.honest (disk_of self) → ¬ HasFailed self → IfErr result (λ e. LeavesNow D.Disk e.1 (Keeps (repository_of self))) }
         ensures failed_stays { HasFailed self → IsErrAnd result (λ e. e.1 ≡ disk_of self) }
         ensures looks { IfErr result (λ e. (e.0 ≡ refusal.Log log.DeviceFailed) ⊎ (e.0 ≡ refusal.Log log.Failed)
-            ⊎ Looks D.honest D.reads D.may_leave D.clock D.left_since D.failures (disk_of self) e.1) }
+            ⊎ Looks D.Disk (disk_of self) e.1) }
         ensures device { IfErr result (λ e. e.0 ≡ refusal.Log log.DeviceFailed
             → Rose (D.failures (disk_of self)) (D.failures e.1)) }
         ensures failed { IfErr result (λ e. (e.0 ≡ refusal.Log log.Failed) ↔ HasFailed self) }

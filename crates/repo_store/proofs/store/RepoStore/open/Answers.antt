@@ -8,6 +8,7 @@ use Rattle.gate_log.specs.Version.{HaveOneVersion, IsOf}
 use Rattle.gate_log.specs.declared.version.LogVersion.{LogVersion}
 use Rattle.gate_log.specs.declared.fault.LogFault.{LogFault}
 use Rattle.repo_store.specs.Journal.{KeepsAlike, Tell}
+use Rattle.repo_store.proofs.Going.{same_entries}
 use Rattle.repo_store.proofs.Images.{reopened}
 use Rattle.repo_store.proofs.Opening.{alike, alike_or, same_fault, only_device, only_first, replayed_fault, never_missing}
 use Rattle.repo_store.proofs.Telling.{told_stands, kept}
@@ -17,11 +18,11 @@ use Rattle.repo_store.proofs.store.RepoStore.open.Goals as goal
 pub invariant_of-result : goal.invariant_of-result
 invariant_of-result g c = record {
   told = ∣ (λ h w.
-      let honest = c.replay.ensures.honest.1 h in
-      subst (λ (l : List (List ℕ)). Tell l c.in-Ok-replay.repo) (sym (c.replay.ensures.same honest)) (c.in-Ok-replay.ensures.told honest)) ∣₁;
+      let honest = c.replay.ensures.looks.looks.both_ways.1 h in
+      subst (λ (l : List (List ℕ)). Tell l c.in-Ok-replay.repo) (sym (same_entries c.in-Ok.log c.replay.new.log c.replay.ensures.looks honest)) (c.in-Ok-replay.ensures.told honest)) ∣₁;
   kept = ∣ (λ h image left.
-      let honest = c.replay.ensures.honest.1 h in
-      kept (entries_of c.in-Ok.log) c.in-Ok-replay.repo image (∣ c.in-Ok-replay.ensures.told honest ∣₁) (c.in-Ok.ensures.durable (c.in-Ok.ensures.honest.1 honest) image (c.replay.ensures.inside honest image left))) ∣₁;
+      let honest = c.replay.ensures.looks.looks.both_ways.1 h in
+      kept (entries_of c.in-Ok.log) c.in-Ok-replay.repo image (∣ c.in-Ok-replay.ensures.told honest ∣₁) (c.in-Ok.ensures.durable (c.in-Ok.ensures.honest.1 honest) image (c.replay.ensures.looks.looks.inside honest image left))) ∣₁;
   doubted = (λ f. absurd (c.in-Ok-replay.ensures.working f), λ t. absurd (false≢true t));
 }
 
@@ -43,7 +44,7 @@ returns-in-Ok-replay-clause-keeps g c h =
 pub returns-in-Ok-replay-clause-durable : goal.returns-in-Ok-replay-clause-durable
 returns-in-Ok-replay-clause-durable g c h image left =
     let honest = c.in-Ok.ensures.honest.0 h in
-    kept (entries_of c.in-Ok.log) c.in-Ok-replay.repo image (∣ c.in-Ok-replay.ensures.told honest ∣₁) (c.in-Ok.ensures.durable h image (c.replay.ensures.inside honest image left))
+    kept (entries_of c.in-Ok.log) c.in-Ok-replay.repo image (∣ c.in-Ok-replay.ensures.told honest ∣₁) (c.in-Ok.ensures.durable h image (c.replay.ensures.looks.looks.inside honest image left))
 
 pub returns-in-Ok-replay-clause-any_moment : goal.returns-in-Ok-replay-clause-any_moment
 returns-in-Ok-replay-clause-any_moment g c h =
@@ -52,7 +53,7 @@ returns-in-Ok-replay-clause-any_moment g c h =
     let opened = weaker g.D.Disk.clock g.D.Disk.left_since c.args.disk (disk_of c.in-Ok.log) (λ (i : Image). g.D.Disk.may_leave c.args.disk i ⊎ StandsAlike first i) (λ (i : Image). g.D.Disk.may_leave c.args.disk i ⊎ KeepsAlike first i)
     (c.in-Ok.ensures.any_moment h) (λ i p. alike_or first i p) in
     joined g.D.Disk.clock g.D.Disk.left_since c.args.disk (disk_of c.in-Ok.log) (disk_of c.replay.new.log) (λ (i : Image). g.D.Disk.may_leave c.args.disk i ⊎ KeepsAlike first i) (g.D.Disk.may_leave (disk_of c.in-Ok.log))
-    opened (c.replay.ensures.any_moment honest) (λ i left. inr (alike first i (entries_of c.in-Ok.log) (c.in-Ok.ensures.stands h) (c.in-Ok.ensures.durable h i left)))
+    opened (c.replay.ensures.looks.looks.moments honest) (λ i left. inr (alike first i (entries_of c.in-Ok.log) (c.in-Ok.ensures.stands h) (c.in-Ok.ensures.durable h i left)))
 
 pub returns-in-Err-replay-clause-any_moment_err : goal.returns-in-Err-replay-clause-any_moment_err
 returns-in-Err-replay-clause-any_moment_err g c h =
@@ -61,7 +62,7 @@ returns-in-Err-replay-clause-any_moment_err g c h =
     let opened = weaker g.D.Disk.clock g.D.Disk.left_since c.args.disk (disk_of c.in-Ok.log) (λ (i : Image). g.D.Disk.may_leave c.args.disk i ⊎ StandsAlike first i) (λ (i : Image). g.D.Disk.may_leave c.args.disk i ⊎ KeepsAlike first i)
     (c.in-Ok.ensures.any_moment h) (λ i p. alike_or first i p) in
     let all = joined g.D.Disk.clock g.D.Disk.left_since c.args.disk (disk_of c.in-Ok.log) (disk_of c.replay.new.log) (λ (i : Image). g.D.Disk.may_leave c.args.disk i ⊎ KeepsAlike first i) (g.D.Disk.may_leave (disk_of c.in-Ok.log))
-    opened (c.replay.ensures.any_moment honest) (λ i left. inr (alike first i (entries_of c.in-Ok.log) (c.in-Ok.ensures.stands h) (c.in-Ok.ensures.durable h i left))) in
+    opened (c.replay.ensures.looks.looks.moments honest) (λ i left. inr (alike first i (entries_of c.in-Ok.log) (c.in-Ok.ensures.stands h) (c.in-Ok.ensures.durable h i left))) in
     subst (λ (d : g.row.D.Denot). LeavesOnly g.D.Disk.clock g.D.Disk.left_since c.args.disk d (λ (i : Image). g.D.Disk.may_leave c.args.disk i ⊎ KeepsAlike first i)) (sym c.into_disk.ensures) all
 
 pub returns-in-Err-replay-clause-damaged : goal.returns-in-Err-replay-clause-damaged
@@ -110,14 +111,14 @@ returns-in-Err-replay-clause-kept g c h =
     let honest = c.in-Ok.ensures.honest.0 h in
     inr (λ image left.
     let left = subst (λ (d : g.row.D.Denot). g.D.Disk.may_leave d image) c.into_disk.ensures left in
-    inr (entries_of c.in-Ok.log, c.in-Ok.ensures.stands h, c.in-Ok.ensures.durable h image (c.replay.ensures.inside honest image left)))
+    inr (entries_of c.in-Ok.log, c.in-Ok.ensures.stands h, c.in-Ok.ensures.durable h image (c.replay.ensures.looks.looks.inside honest image left)))
 
 pub returns-in-Ok-replay-clause-version_stays : goal.returns-in-Ok-replay-clause-version_stays
 returns-in-Ok-replay-clause-version_stays g c h =
     let D = g.D.Disk in
     let P : Image → Type 0 = λ i. D.may_leave c.args.disk i ⊎ HaveOneVersion (D.reads c.args.disk) i in
     let honest = c.in-Ok.ensures.honest.0 h in
-    joined D.clock D.left_since c.args.disk (disk_of c.in-Ok.log) (disk_of c.replay.new.log) P (D.may_leave (disk_of c.in-Ok.log)) (c.in-Ok.ensures.version_stays h) (c.replay.ensures.any_moment honest)
+    joined D.clock D.left_since c.args.disk (disk_of c.in-Ok.log) (disk_of c.replay.new.log) P (D.may_leave (disk_of c.in-Ok.log)) (c.in-Ok.ensures.version_stays h) (c.replay.ensures.looks.looks.moments honest)
     (λ i left. inr (version_of c.in-Ok.log, c.in-Ok.ensures.version h, subst (λ (v : LogVersion). IsOf v i) c.version-version.ensures.version (c.version-version.ensures.stand honest c.in-Ok.ensures.some.1 i left)))
 
 pub returns-in-Err-replay-clause-version_stays_err : goal.returns-in-Err-replay-clause-version_stays_err
@@ -126,5 +127,5 @@ returns-in-Err-replay-clause-version_stays_err g c h =
     let P : Image → Type 0 = λ i. D.may_leave c.args.disk i ⊎ HaveOneVersion (D.reads c.args.disk) i in
     let honest = c.in-Ok.ensures.honest.0 h in
     subst (λ (d : g.row.D.Denot). LeavesOnly D.clock D.left_since c.args.disk d P) (sym c.into_disk.ensures)
-    (joined D.clock D.left_since c.args.disk (disk_of c.in-Ok.log) (disk_of c.replay.new.log) P (D.may_leave (disk_of c.in-Ok.log)) (c.in-Ok.ensures.version_stays h) (c.replay.ensures.any_moment honest)
+    (joined D.clock D.left_since c.args.disk (disk_of c.in-Ok.log) (disk_of c.replay.new.log) P (D.may_leave (disk_of c.in-Ok.log)) (c.in-Ok.ensures.version_stays h) (c.replay.ensures.looks.looks.moments honest)
     (λ i left. inr (version_of c.in-Ok.log, c.in-Ok.ensures.version h, subst (λ (v : LogVersion). IsOf v i) c.version-version.ensures.version (c.version-version.ensures.stand honest c.in-Ok.ensures.some.1 i left))))
