@@ -45,6 +45,10 @@ abbrev pub entry_fault : List Revision → Entry → Option RepoFault
 entry_fault x (Revised n set props) = commit_fault x (head_of x) (Revised n set props)
 entry_fault x (Mapped n props) = by_repository x (Mapped n props)
 
+-- a whole revision is loaded: the repository takes its entry, and it is said
+abbrev pub LoadsOne : Repository → Rev → Repository → Option (List ℕ) → Option (List ℕ) → Type 0
+LoadsOne x r y start now = (entry : Entry) × (line : List ℕ) × IsLoaded x.revisions r entry line × (entry_fault x.revisions entry ≡ None) × (y ≡ with_entry_in x entry) × Appends start now line
+
 -- whole revisions one after another, each of which the repository takes, and all that is said of them
 abbrev pub Loads : Repository → List Rev → Repository → List ℕ → Type 0
 Loads x [] y said = (y ≡ x) × (said ≡ [])

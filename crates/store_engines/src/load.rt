@@ -1,19 +1,15 @@
 //! `load` over any disk, input and report.
 ghost use Rattle.std.specs.List.{filter};
-ghost use Rattle.std.specs.Prelude.{◌≡◌, ◌≢◌, ◌⊎◌, ◌<◌, ◌∷◌, ◌++◌, [], ℕ, List};
-ghost use Rattle.std.specs.Prelude.{Option, Some, None, length, true};
+ghost use Rattle.std.specs.Prelude.{◌≡◌, ◌<◌, ◌∷◌, ◌++◌, [], ℕ, List};
+ghost use Rattle.std.specs.Prelude.{Option, Some, None, true};
 ghost use Rattle.std.specs.Prelude.{false, IfOk, IfErr, IfSome, OnOk};
-ghost use Rattle.std.specs.Io.KnownBytes.{Appends};
 ghost use Rattle.byte_streams.specs.Causes.{Rose, counts};
 ghost use Rattle.node_base.specs.Props.{PropMap};
-ghost use Rattle.dump_load.specs.declared.change.Change.{Change as ChangeOf};
 ghost use Rattle.dump_text.specs.Streams.{dump_by, records_of};
 ghost use Rattle.dump_text.specs.declared.record.DumpRecord.{DumpRecord as RecordOf};
 ghost use Rattle.repo_core.specs.Repository.{Repository, trees_of};
-ghost use Rattle.repo_core.specs.Entries.{with_entry_in};
-ghost use Rattle.repo_core.specs.declared.entry.Entry.{Entry};
 ghost use Rattle.repo_core.specs.declared.entry.Entry.TheVariants.{Mapped};
-ghost use Rattle.fleet_disk.specs.Image.{Image};
+ghost use Rattle.gate_log.specs.Device.{LeavesNow};
 ghost use Rattle.repo_store.specs.Journal.{Keeps};
 ghost use Rattle.repo_store.specs.Words.{disk_of, repository_of, revisions_of, HasFailed, IsKept};
 ghost use Rattle.fleet_engines.specs.Grouping.{is_no_identity, records_of_rev};
@@ -24,7 +20,7 @@ ghost use Rattle.fleet_engines.specs.Runs.{Counted, BothCounted};
 ghost use Rattle.fleet_engines.specs.Takers.{place};
 ghost use Rattle.store_engines.specs.Loaders.{last_of, TakesRecord, RefusesRecord, EndsLoad, CantEndLoad};
 ghost use Rattle.store_engines.specs.Devices.{is_device, IsSafe, Serves};
-ghost use Rattle.store_engines.specs.Loads.{entry_fault, read_of, CantTake, CantClose, Gathered, IsBare, IsLoaded};
+ghost use Rattle.store_engines.specs.Loads.{read_of, CantTake, CantClose, Gathered, IsBare, LoadsOne};
 ghost use Rattle.store_engines.specs.Loads.{Commits, Loaded, Moves, NotLoaded, Refused, ServesRecords, Stands};
 ghost use Rattle.store_engines.specs.Mirrors.{is_mirror};
 ghost use Rattle.store_engines.specs.Telling.{AllStand, KeepsTold};
@@ -86,11 +82,8 @@ fn load_next<D: Disk + Drop, T: LoadReport>(
     report: &mut T,
 ) -> Result<(), Refusal>
     requires later { is_zero (trees_of (revisions_of store.old)) (rev_read revision) ≡ false }
-    ensures ok { OnOk result ((entry : Entry) × (line : List ℕ)
-        × IsLoaded (revisions_of store.old) (rev_read revision) entry line
-        × (entry_fault (revisions_of store.old) entry ≡ None)
-        × (repository_of store.new ≡ with_entry_in (repository_of store.old) entry)
-        × Appends (T.contents report.old) (T.contents report.new) line) }
+    ensures ok { OnOk result (LoadsOne (repository_of store.old) (rev_read revision) (repository_of store.new)
+        (T.contents report.old) (T.contents report.new)) }
     ensures refused { IfErr result (λ e. NotLoaded (repository_of store.old) (rev_read revision) store.new
         (T.contents report.old) (T.contents report.new) (Rose (T.failures report.old) (T.failures report.new)) e) }
     ensures device { IsSafe store.old
@@ -115,11 +108,8 @@ fn load_one<D: Disk + Drop, T: LoadReport>(
     store: &mut RepoStore<D>,
     report: &mut T,
 ) -> Result<(), Refusal>
-    ensures ok { OnOk result (IsBare (rev_read revision) → (entry : Entry) × (line : List ℕ)
-        × IsLoaded (revisions_of store.old) (rev_read revision) entry line
-        × (entry_fault (revisions_of store.old) entry ≡ None)
-        × (repository_of store.new ≡ with_entry_in (repository_of store.old) entry)
-        × Appends (T.contents report.old) (T.contents report.new) line) }
+    ensures ok { OnOk result (IsBare (rev_read revision) → LoadsOne (repository_of store.old) (rev_read revision)
+        (repository_of store.new) (T.contents report.old) (T.contents report.new)) }
     ensures refused { IfErr result (λ e. IsBare (rev_read revision)
         → NotLoaded (repository_of store.old) (rev_read revision) store.new (T.contents report.old)
         (T.contents report.new) (Rose (T.failures report.old) (T.failures report.new)) e) }
@@ -265,30 +255,6 @@ impl<D: Disk + Drop, T: LoadReport> Taker<RepoStore<D>, T> for Loader {
     }
 }
 
-// Loads a dump into a repository that is no mirror.
-fn load_stream<D: Disk + Drop, I: Input, T: LoadReport>(
-    alloc: Global,
-    deltas: bool,
-    store: &mut RepoStore<D>,
-    input: &mut I,
-    report: &mut T,
-) -> Result<(), Refusal>
-    ensures ok { OnOk result (IfSome (I.remaining input.old)
-        (λ bytes. Loaded deltas (repository_of store.old) bytes (repository_of store.new) (T.contents report.old)
-        (T.contents report.new))) }
-    ensures refused { IfErr result (λ e. IfSome (I.remaining input.old)
-        (λ bytes. Refused deltas (repository_of store.old) bytes store.new (T.contents report.old)
-        (T.contents report.new) (Rose (T.failures report.old) (T.failures report.new)) e)) }
-    ensures device { IsSafe store.old → Serves store.old store.new result }
-    ensures entries { IsSafe store.old → IfSome (I.remaining input.old)
-        (λ bytes. ServesRecords (filter is_no_identity (records_of (dump_by deltas bytes))) store.old store.new result []) }
-    ensures told { KeepsTold store.old store.new (T.told report.old) (T.told report.new) }
-    ensures peer { BothCounted result (counts I.failures I.reads input.old input.new) (T.failures report.old) (T.failures report.new) }
-{
-    let mut loader = Loader::new(alloc);
-    read_stream(alloc, deltas, &mut loader, store, report, input)
-}
-
 /// Loads a dump: each revision when its last record has been read, judged whole, committed, and told in a line. The
 /// identity of the dump is passed over.
 ///
@@ -319,15 +285,15 @@ pub fn run_load<D: Disk + Drop, I: Input, T: LoadReport>(
     ensures device { Serves store.old store.new result }
     ensures entries { IfSome (I.remaining input.old) (λ bytes. ServesRecords
         (filter is_no_identity (records_of (dump_by deltas bytes))) store.old store.new result []) }
-    ensures durable { D.honest (disk_of store.new) → ¬ HasFailed store.new → (image : Image)
-        → D.may_leave (disk_of store.new) image
-        → Keeps (repository_of store.new) image }
+    ensures durable { D.honest (disk_of store.new) → ¬ HasFailed store.new
+        → LeavesNow D.Disk (disk_of store.new) (Keeps (repository_of store.new)) }
     ensures kept { IsKept store.new }
     ensures told { ¬ HasFailed store.old → AllStand store.old (T.told report.old) → AllStand store.new (T.told report.new) }
     ensures peer { BothCounted result (counts I.failures I.reads input.old input.new) (T.failures report.old) (T.failures report.new) }
 {
     refuse_mirror(store.repo())?;
-    let done = load_stream(alloc, deltas, store, input, report);
+    let mut loader = Loader::new(alloc);
+    let done = read_stream(alloc, deltas, &mut loader, store, report, input);
     let _repo = store.repo();
     done
 }

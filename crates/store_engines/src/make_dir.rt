@@ -8,8 +8,8 @@ ghost use Rattle.fleet_engines.specs.Runs.{Counted};
 ghost use Rattle.node_base.specs.Path.{Path};
 ghost use Rattle.node_base.specs.PathText.{path_read};
 ghost use Rattle.node_base.specs.declared.fault.PathFault.{PathFault as PathFaultOf};
-ghost use Rattle.fleet_disk.specs.Image.{Image};
 ghost use Rattle.repo_core.specs.declared.entry.Entry.{Entry as EntryOf};
+ghost use Rattle.gate_log.specs.Device.{LeavesNow};
 ghost use Rattle.repo_store.specs.Journal.{Keeps};
 ghost use Rattle.repo_store.specs.Words.{disk_of, repository_of, revisions_of, HasFailed};
 ghost use Rattle.store_engines.specs.Commits.{bare_entry, directory_entry, directory_set, logged, IsCommitted};
@@ -174,9 +174,8 @@ pub fn run_mkdir<D: Disk + Drop, O: Output>(
     ensures device { Serves store.old store.new result }
     ensures entry { (place : Path) → path_read path.now ≡ Ok place
         → ServesOne (directory_entry (revisions_of store.old) place message.now moment) store.old store.new result }
-    ensures durable { D.honest (disk_of store.new) → ¬ HasFailed store.new → (image : Image)
-        → D.may_leave (disk_of store.new) image
-        → Keeps (repository_of store.new) image }
+    ensures durable { D.honest (disk_of store.new) → ¬ HasFailed store.new
+        → LeavesNow D.Disk (disk_of store.new) (Keeps (repository_of store.new)) }
     ensures peer { Counted result (O.failures output.old) (O.failures output.new) }
 {
     refuse_mirror(store.repo())?;
