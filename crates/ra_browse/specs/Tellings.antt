@@ -14,6 +14,7 @@ use Rattle.browse_wire.specs.declared.url.UrlFault.TheVariants as url
 use Rattle.ra_wire.specs.Answers.{dirent_as}
 use Rattle.ra_wire.specs.declared.dirent.Dirent as declared_dirent
 use Rattle.ra_serve.specs.declared.fault.PortFault.{PortFault}
+use Rattle.ra_serve.specs.declared.port.RepoPort.{Ghosts}
 use Rattle.ra_serve.specs.Answers.{refused, asked, node_in}
 use Rattle.ra_serve.specs.Ports.{Stays, IsOwn, refusal_of, tree_of}
 use Rattle.ra_browse.specs.declared.denial.Denial.{Denial}
@@ -60,8 +61,8 @@ Comes before now due Is (Ok a) = (due ≡ None) × Is a
 Comes before now due Is (Err s) = MayStop before now due s
 
 -- the same of a port, where its repository was known
-abbrev pub Finds : {P A : Type 0} → (P → Option Repository) → (P → ℕ) → (Repository → Option Denial) → (Repository → A → Type 0) → P → P → Result A Stop → Type 0
-Finds repository refusals due Is old new result = (x : Repository) → repository old ≡ Some x → Comes (refusals old) (refusals new) (due x) (Is x) result
+abbrev pub Finds : {P A : Type 0} → Ghosts P → (Repository → Option Denial) → (Repository → A → Type 0) → P → P → Result A Stop → Type 0
+Finds G due Is old new result = (x : Repository) → G.repository old ≡ Some x → Comes (G.refusals old) (G.refusals new) (due x) (Is x) result
 
 -- what stands at a path of a revision
 pub record IsSeen (x : Repository) (p : Path) (n : Option ℕ) (s : declared_seen.Seen) : Type 0 where
@@ -166,8 +167,8 @@ Answers repository refusals contents at read old new before now =
     (x : Repository) → repository old ≡ Some x → Answered x at read (Rose (refusals old) (refusals new)) (contents before) (contents now)
 
 -- and the port's repository stays what it is
-abbrev pub PortStays : {P : Type 0} → (P → Option Repository) → (P → ℕ) → (P → Bool) → P → P → Type 0
-PortStays repository refusals is_mirror old new = Stays (repository old) (repository new) (is_mirror old) (is_mirror new) (refusals old) (refusals new)
+abbrev pub PortStays : {P : Type 0} → Ghosts P → P → P → Type 0
+PortStays G old new = Stays (G.repository old) (G.repository new) (G.is_mirror old) (G.is_mirror new) (G.refusals old) (G.refusals new)
 
 -- why a session stays where it is
 abbrev pub url_stop : UrlFault → Stop

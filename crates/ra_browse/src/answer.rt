@@ -53,7 +53,7 @@ pub fn answer<P: RepoPort, W: Write + Drop>(
     ensures told { IfOk result (Answers P.repository P.refusals W.contents (place_as place.old) (ask_in item)
         port.old port.new out) }
     ensures moved { IfOk result (λ _. place_as place.new ≡ behind (place_as place.old) (ask_in item)) }
-    ensures stays { PortStays P.repository P.refusals P.is_mirror port.old port.new }
+    ensures stays { PortStays P.RepoPort port.old port.new }
 {
     match BrowseCommand::parse(alloc, item) {
         Ok(command) => command_answer(alloc, port, place, &command, out),
@@ -76,7 +76,7 @@ pub fn command_answer<P: RepoPort, W: Write + Drop>(
     ensures told { IfOk result (Answers P.repository P.refusals W.contents (place_as place.old)
         (Ok (ask_as command.now)) port.old port.new out) }
     ensures moved { IfOk result (λ _. place_as place.new ≡ moved (place_as place.old) (ask_as command.now)) }
-    ensures stays { PortStays P.repository P.refusals P.is_mirror port.old port.new }
+    ensures stays { PortStays P.RepoPort port.old port.new }
 {
     if is_answered(command) {
         return answered(alloc, port, place, command, out);
@@ -96,7 +96,7 @@ fn answered<P: RepoPort, W: Write + Drop>(
     ensures told { IfOk result (Answers P.repository P.refusals W.contents (place_as place.old)
         (Ok (ask_as command.now)) port.old port.new out) }
     ensures moved { IfOk result (λ _. place_as place.new ≡ moved (place_as place.old) (ask_as command.now)) }
-    ensures stays { PortStays P.repository P.refusals P.is_mirror port.old port.new }
+    ensures stays { PortStays P.RepoPort port.old port.new }
 {
     match authorise(out) {
         Ok(out) => reply(alloc, port, place, command, out),
@@ -163,7 +163,7 @@ fn reply<P: RepoPort, W: Write + Drop>(
     ensures told { IfOk result (Tells P.repository P.refusals W.contents (place_as place.old) (ask_as command.now)
         port.old port.new out) }
     ensures moved { IfOk result (λ _. place_as place.new ≡ moved (place_as place.old) (ask_as command.now)) }
-    ensures stays { PortStays P.repository P.refusals P.is_mirror port.old port.new }
+    ensures stays { PortStays P.RepoPort port.old port.new }
 {
     match command {
         BrowseCommand::Plain(command) => plain(alloc, port, place, command, out),
@@ -203,7 +203,7 @@ fn plain<P: RepoPort, W: Write + Drop>(
 ) -> Result<W, ServeFault>
     ensures told { IfOk result (Tells P.repository P.refusals W.contents (place_as place.now)
         (Plain (command_as command.now)) port.old port.new out) }
-    ensures stays { PortStays P.repository P.refusals P.is_mirror port.old port.new }
+    ensures stays { PortStays P.RepoPort port.old port.new }
 {
     match command {
         Command::LatestRev => latest(port, out),
@@ -231,7 +231,7 @@ fn plain<P: RepoPort, W: Write + Drop>(
 fn latest<P: RepoPort, W: Write + Drop>(port: &mut P, out: W) -> Result<W, ServeFault>
     ensures told { (at : Url) → IfOk result (Tells P.repository P.refusals W.contents at (Plain LatestRev)
         port.old port.new out) }
-    ensures stays { PortStays P.repository P.refusals P.is_mirror port.old port.new }
+    ensures stays { PortStays P.RepoPort port.old port.new }
 {
     match port.latest() {
         Ok(head) => {
@@ -253,7 +253,7 @@ fn check_path<P: RepoPort, W: Write + Drop>(
 ) -> Result<W, ServeFault>
     ensures told { IfOk result (Tells P.repository P.refusals W.contents (place_as place.now)
         (Plain (CheckPath path.now number)) port.old port.new out) }
-    ensures stays { PortStays P.repository P.refusals P.is_mirror port.old port.new }
+    ensures stays { PortStays P.RepoPort port.old port.new }
 {
     match joined(alloc, &place.path, path) {
         Ok(names) => tell_kind(port, names.as_slice(), number, out),
@@ -270,7 +270,7 @@ fn tell_kind<P: RepoPort, W: Write + Drop>(
 ) -> Result<W, ServeFault>
     ensures told { (at : Url) (p : Path) → names.now ≡ at.1 ++ p → IfOk result (Tells P.repository P.refusals
         W.contents at (Plain (CheckPath p number)) port.old port.new out) }
-    ensures stays { PortStays P.repository P.refusals P.is_mirror port.old port.new }
+    ensures stays { PortStays P.RepoPort port.old port.new }
 {
     match tree_asked(port, number) {
         Ok((_, tree)) => {
@@ -299,7 +299,7 @@ fn proplist<P: RepoPort, W: Write + Drop>(
 ) -> Result<W, ServeFault>
     ensures told { (at : Url) → IfOk result (Tells P.repository P.refusals W.contents at
         (Plain (RevProplist number)) port.old port.new out) }
-    ensures stays { PortStays P.repository P.refusals P.is_mirror port.old port.new }
+    ensures stays { PortStays P.RepoPort port.old port.new }
 {
     match props_asked(port, number) {
         Ok(props) => {
@@ -319,7 +319,7 @@ fn prop<P: RepoPort, W: Write + Drop>(
 ) -> Result<W, ServeFault>
     ensures told { (at : Url) → IfOk result (Tells P.repository P.refusals W.contents at
         (Plain (RevProp number name.now)) port.old port.new out) }
-    ensures stays { PortStays P.repository P.refusals P.is_mirror port.old port.new }
+    ensures stays { PortStays P.RepoPort port.old port.new }
 {
     match props_asked(port, number) {
         Ok(props) => {

@@ -42,7 +42,7 @@ pub fn get_dir<P: RepoPort, W: Write + Drop>(
 ) -> Result<W, ServeFault>
     ensures told { IfOk result (Tells P.repository P.refusals W.contents (place_as place.now)
         (Plain (GetDir path.now number wanted.props wanted.contents)) port.old port.new out) }
-    ensures stays { PortStays P.repository P.refusals P.is_mirror port.old port.new }
+    ensures stays { PortStays P.RepoPort port.old port.new }
 {
     let seen = match see(alloc, port, &place.path, path, number) {
         Ok(seen) => seen,
@@ -61,9 +61,9 @@ fn entries_wanted<P: RepoPort>(
     seen: &Seen,
     wanted: bool,
 ) -> Result<Vec<Dirent>, Stop>
-    ensures found { Finds P.repository P.refusals (λ x. None)
+    ensures found { Finds P.RepoPort (λ x. None)
         (λ x es. AreEntries x wanted seen.now.names.items seen.now.tree es.items) port.old port.new result }
-    ensures stays { PortStays P.repository P.refusals P.is_mirror port.old port.new }
+    ensures stays { PortStays P.RepoPort port.old port.new }
 {
     if !wanted {
         return Ok(Vec::new(alloc));
@@ -80,9 +80,9 @@ fn entries_of<P: RepoPort>(
     port: &mut P,
     children: Children<'_>,
 ) -> Result<Vec<Dirent>, Stop>
-    ensures found { Finds P.repository P.refusals (λ x. None)
+    ensures found { Finds P.RepoPort (λ x. None)
         (λ x es. map dirent_as es.items ≡ map (entry_of x) children.entry) port.old port.new result }
-    ensures stays { PortStays P.repository P.refusals P.is_mirror port.old port.new }
+    ensures stays { PortStays P.RepoPort port.old port.new }
 {
     let mut children = children;
     let mut entries = Vec::new(alloc);
@@ -106,10 +106,10 @@ fn next_of<P: RepoPort>(
     port: &mut P,
     children: &mut Children<'_>,
 ) -> Result<Option<Dirent>, Stop>
-    ensures found { Finds P.repository P.refusals (λ x. None)
+    ensures found { Finds P.RepoPort (λ x. None)
         (λ x r. MatchOption r (map (entry_of x) children.old ≡ [])
         (λ d. map (entry_of x) children.old ≡ dirent_as d ∷ map (entry_of x) children.new)) port.old port.new result }
-    ensures stays { PortStays P.repository P.refusals P.is_mirror port.old port.new }
+    ensures stays { PortStays P.RepoPort port.old port.new }
 {
     match children.next() {
         Ok(Some(child)) => match entry_of(alloc, port, &child) {
@@ -123,9 +123,9 @@ fn next_of<P: RepoPort>(
 
 // The entry of a child.
 fn entry_of<P: RepoPort>(alloc: Global, port: &mut P, child: &ChildNode<'_>) -> Result<Dirent, Stop>
-    ensures found { Finds P.repository P.refusals (λ x. None)
+    ensures found { Finds P.RepoPort (λ x. None)
         (λ x d. dirent_as d ≡ entry_of x (child.now.name.now, child.now.node.now)) port.old port.new result }
-    ensures stays { PortStays P.repository P.refusals P.is_mirror port.old port.new }
+    ensures stays { PortStays P.RepoPort port.old port.new }
 {
     match made_at(alloc, port, child.node.changed) {
         Ok(made) => entry_with(alloc, child, made),

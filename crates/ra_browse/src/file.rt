@@ -49,7 +49,7 @@ pub fn get_file<P: RepoPort, W: Write + Drop>(
 ) -> Result<W, ServeFault>
     ensures told { IfOk result (Tells P.repository P.refusals W.contents (place_as place.now)
         (Plain (GetFile path.now number wanted.props wanted.contents)) port.old port.new out) }
-    ensures stays { PortStays P.repository P.refusals P.is_mirror port.old port.new }
+    ensures stays { PortStays P.RepoPort port.old port.new }
 {
     match see(alloc, port, &place.path, path, number) {
         Ok(seen) => tell_file(&seen, wanted, out),

@@ -51,7 +51,7 @@ pub fn get_locations<P: RepoPort, W: Write + Drop>(
 ) -> Result<W, ServeFault>
     ensures told { IfOk result (Tells P.repository P.refusals W.contents (place_as place.now)
         (Locations path.now peg numbers.now) port.old port.new out) }
-    ensures stays { PortStays P.repository P.refusals P.is_mirror port.old port.new }
+    ensures stays { PortStays P.RepoPort port.old port.new }
 {
     match seek(alloc, port, &place.path, path, peg, numbers) {
         Ok(sought) => tell_sought(alloc, &sought, out),
@@ -68,9 +68,9 @@ fn seek<P: RepoPort>(
     peg: u64,
     numbers: &[u64],
 ) -> Result<Sought, Stop>
-    ensures found { Finds P.repository P.refusals (λ x. locations_denied x (base.now ++ path.now) peg numbers.now)
+    ensures found { Finds P.RepoPort (λ x. locations_denied x (base.now ++ path.now) peg numbers.now)
         (λ x s. IsSought x (place peg (base.now ++ path.now)) numbers.now s) port.old port.new result }
-    ensures stays { PortStays P.repository P.refusals P.is_mirror port.old port.new }
+    ensures stays { PortStays P.RepoPort port.old port.new }
 {
     match stood(alloc, port, base, path, peg) {
         Ok(from) => seek_from(alloc, port, from, numbers),
@@ -85,9 +85,9 @@ fn seek_from<P: RepoPort>(
     from: Place,
     numbers: &[u64],
 ) -> Result<Sought, Stop>
-    ensures found { Finds P.repository P.refusals (λ x. no_revision x (newest from.revision numbers.now))
+    ensures found { Finds P.RepoPort (λ x. no_revision x (newest from.revision numbers.now))
         (λ x s. IsSought x from numbers.now s) port.old port.new result }
-    ensures stays { PortStays P.repository P.refusals P.is_mirror port.old port.new }
+    ensures stays { PortStays P.RepoPort port.old port.new }
 {
     match reached(alloc, port, from.revision, numbers) {
         Ok((numbers, sets)) => Ok(Sought {
@@ -107,9 +107,9 @@ fn stood<P: RepoPort>(
     path: &NodePath,
     number: u64,
 ) -> Result<Place, Stop>
-    ensures found { Finds P.repository P.refusals (λ x. stood_denied x (base.now ++ path.now) number)
+    ensures found { Finds P.RepoPort (λ x. stood_denied x (base.now ++ path.now) number)
         (λ x a. a ≡ place number (base.now ++ path.now)) port.old port.new result }
-    ensures stays { PortStays P.repository P.refusals P.is_mirror port.old port.new }
+    ensures stays { PortStays P.RepoPort port.old port.new }
 {
     match tree_asked(port, Some(number)) {
         Ok((revision, tree)) => place_in(alloc, &tree, revision, base, path),
@@ -165,10 +165,10 @@ fn reached<P: RepoPort>(
     peg: RevNo,
     numbers: &[u64],
 ) -> Result<(Vec<RevNo>, Vec<ChangeSet>), Stop>
-    ensures found { Finds P.repository P.refusals (λ x. no_revision x (newest peg numbers.now))
+    ensures found { Finds P.RepoPort (λ x. no_revision x (newest peg numbers.now))
         (λ x r. (r.0.items ≡ numbers.now) × (r.1.items ≡ take (suc (newest peg numbers.now)) x.sets))
         port.old port.new result }
-    ensures stays { PortStays P.repository P.refusals P.is_mirror port.old port.new }
+    ensures stays { PortStays P.RepoPort port.old port.new }
 {
     match revisions(alloc, port, peg, numbers) {
         Ok((numbers, last)) => with_sets(alloc, port, last, numbers),
@@ -183,9 +183,9 @@ fn with_sets<P: RepoPort>(
     last: RevNo,
     numbers: Vec<RevNo>,
 ) -> Result<(Vec<RevNo>, Vec<ChangeSet>), Stop>
-    ensures found { Finds P.repository P.refusals (λ x. no_revision x last)
+    ensures found { Finds P.RepoPort (λ x. no_revision x last)
         (λ x r. (r.0.items ≡ numbers.items) × (r.1.items ≡ take (suc last) x.sets)) port.old port.new result }
-    ensures stays { PortStays P.repository P.refusals P.is_mirror port.old port.new }
+    ensures stays { PortStays P.RepoPort port.old port.new }
 {
     match shared(alloc, port, last) {
         Ok(sets) => Ok((numbers, sets)),
@@ -229,9 +229,9 @@ pub fn newer(one: RevNo, other: RevNo) -> RevNo
 
 /// The sets of the revisions from 0 up to one.
 pub fn shared<P: RepoPort>(alloc: Global, port: &mut P, last: RevNo) -> Result<Vec<ChangeSet>, Stop>
-    ensures found { Finds P.repository P.refusals (λ x. no_revision x last)
+    ensures found { Finds P.RepoPort (λ x. no_revision x last)
         (λ x v. v.items ≡ take (suc last) x.sets) port.old port.new result }
-    ensures stays { PortStays P.repository P.refusals P.is_mirror port.old port.new }
+    ensures stays { PortStays P.RepoPort port.old port.new }
 {
     match sets_up_to(alloc, port, last) {
         Ok(sets) => Ok(sets),

@@ -56,7 +56,7 @@ pub fn get_log<P: RepoPort, W: Write + Drop>(
 ) -> Result<W, ServeFault>
     ensures told { IfOk result (Tells P.repository P.refusals W.contents (place_as place.now)
         (Log (log_as order.now)) port.old port.new out) }
-    ensures stays { PortStays P.repository P.refusals P.is_mirror port.old port.new }
+    ensures stays { PortStays P.RepoPort port.old port.new }
 {
     match seek(alloc, port, &place.path, order) {
         Ok(sought) => tell_sought(alloc, &sought, order, out),
@@ -71,10 +71,10 @@ fn seek<P: RepoPort>(
     base: &NodePath,
     order: &LogOrder,
 ) -> Result<LogSought, Stop>
-    ensures found { Finds P.repository P.refusals (λ x. log_denied x base.now (log_as order.now))
+    ensures found { Finds P.RepoPort (λ x. log_denied x base.now (log_as order.now))
         (λ x s. IsLogSought x (newest_logged x (log_as order.now)) base.now (log_as order.now)
         (range_logged x (log_as order.now)) s) port.old port.new result }
-    ensures stays { PortStays P.repository P.refusals P.is_mirror port.old port.new }
+    ensures stays { PortStays P.RepoPort port.old port.new }
 {
     match ends(port, order.start, order.end) {
         Ok((first, last)) => seek_between(alloc, port, base, order, first, last),
@@ -93,7 +93,7 @@ fn ends<P: RepoPort>(
     ensures refused { (x : Repository) → P.repository port.old ≡ Some x
         → IfErr result (λ f. ports.MayRefuse (P.refusals port.old) (P.refusals port.new) f
         (ports.no_revision x (newer (asked x start) (asked x end)))) }
-    ensures stays { PortStays P.repository P.refusals P.is_mirror port.old port.new }
+    ensures stays { PortStays P.RepoPort port.old port.new }
 {
     let first = match asked(port, start) {
         Ok(first) => first,
@@ -114,11 +114,11 @@ fn seek_between<P: RepoPort>(
     first: RevNo,
     last: RevNo,
 ) -> Result<LogSought, Stop>
-    ensures found { Finds P.repository P.refusals
+    ensures found { Finds P.RepoPort
         (λ x. logged_denied x (newer first last) (paths_below base.now order.now.paths.items))
         (λ x s. IsLogSought x (newer first last) base.now (log_as order.now) (range_of first last (log_as order.now)) s)
         port.old port.new result }
-    ensures stays { PortStays P.repository P.refusals P.is_mirror port.old port.new }
+    ensures stays { PortStays P.RepoPort port.old port.new }
 {
     let highest = newer(first, last);
     match places_at(alloc, port, base, order.paths.as_slice(), highest) {
@@ -143,9 +143,9 @@ fn places_at<P: RepoPort>(
     paths: &[NodePath],
     number: RevNo,
 ) -> Result<Vec<Place>, Stop>
-    ensures found { Finds P.repository P.refusals (λ x. logged_denied x number (paths_below base.now paths.now))
+    ensures found { Finds P.RepoPort (λ x. logged_denied x number (paths_below base.now paths.now))
         (λ x v. v.items ≡ map (place number) (paths_below base.now paths.now)) port.old port.new result }
-    ensures stays { PortStays P.repository P.refusals P.is_mirror port.old port.new }
+    ensures stays { PortStays P.RepoPort port.old port.new }
 {
     match port.tree(number) {
         Ok(tree) => places_in(alloc, &tree, number, base, paths),
@@ -219,10 +219,10 @@ fn with_rows<P: RepoPort>(
     range: LogRange,
     places: Vec<Place>,
 ) -> Result<LogSought, Stop>
-    ensures found { Finds P.repository P.refusals (λ x. no_revision x last)
+    ensures found { Finds P.RepoPort (λ x. no_revision x last)
         (λ x s. (s.places.items ≡ places.items) × (s.range ≡ range) × AreRows x last wanted s.rows)
         port.old port.new result }
-    ensures stays { PortStays P.repository P.refusals P.is_mirror port.old port.new }
+    ensures stays { PortStays P.RepoPort port.old port.new }
 {
     match rows_at(alloc, port, last, wanted) {
         Ok(rows) => Ok(LogSought {
@@ -241,9 +241,9 @@ fn rows_at<P: RepoPort>(
     last: RevNo,
     wanted: bool,
 ) -> Result<LogRows, Stop>
-    ensures found { Finds P.repository P.refusals (λ x. no_revision x last) (λ x r. AreRows x last wanted r)
+    ensures found { Finds P.RepoPort (λ x. no_revision x last) (λ x r. AreRows x last wanted r)
         port.old port.new result }
-    ensures stays { PortStays P.repository P.refusals P.is_mirror port.old port.new }
+    ensures stays { PortStays P.RepoPort port.old port.new }
 {
     let sets = match shared(alloc, port, last) {
         Ok(sets) => sets,
@@ -261,9 +261,9 @@ fn rows_at<P: RepoPort>(
 
 // The properties of the revisions from 0 up to one.
 fn shared_props<P: RepoPort>(alloc: Global, port: &mut P, last: RevNo) -> Result<Vec<Props>, Stop>
-    ensures found { Finds P.repository P.refusals (λ x. no_revision x last)
+    ensures found { Finds P.RepoPort (λ x. no_revision x last)
         (λ x v. v.items ≡ take (suc last) (props_of x.revisions)) port.old port.new result }
-    ensures stays { PortStays P.repository P.refusals P.is_mirror port.old port.new }
+    ensures stays { PortStays P.RepoPort port.old port.new }
 {
     match props_up_to(alloc, port, last) {
         Ok(props) => Ok(props),
@@ -274,9 +274,9 @@ fn shared_props<P: RepoPort>(alloc: Global, port: &mut P, last: RevNo) -> Result
 
 // Their trees.
 fn all_trees<P: RepoPort>(alloc: Global, port: &mut P, last: RevNo) -> Result<Vec<Tree>, Stop>
-    ensures found { Finds P.repository P.refusals (λ x. no_revision x last)
+    ensures found { Finds P.RepoPort (λ x. no_revision x last)
         (λ x v. v.items ≡ take (suc last) (trees_of x.revisions)) port.old port.new result }
-    ensures stays { PortStays P.repository P.refusals P.is_mirror port.old port.new }
+    ensures stays { PortStays P.RepoPort port.old port.new }
 {
     match trees_up_to(alloc, port, last) {
         Ok(trees) => Ok(trees),
@@ -295,7 +295,7 @@ fn shared_trees<P: RepoPort>(
     ensures found { (x : Repository) → P.repository port.old ≡ Some x → no_revision x last ≡ None
         → Comes (P.refusals port.old) (P.refusals port.new) None
         (λ v. v.items ≡ (if wanted then take (suc last) (trees_of x.revisions) else [])) result }
-    ensures stays { PortStays P.repository P.refusals P.is_mirror port.old port.new }
+    ensures stays { PortStays P.RepoPort port.old port.new }
 {
     if wanted {
         return all_trees(alloc, port, last);

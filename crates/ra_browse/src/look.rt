@@ -50,9 +50,9 @@ pub fn see<P: RepoPort>(
     path: &NodePath,
     number: Option<u64>,
 ) -> Result<Seen, Stop>
-    ensures found { Finds P.repository P.refusals (λ x. no_revision x (asked x number))
+    ensures found { Finds P.RepoPort (λ x. no_revision x (asked x number))
         (λ x s. IsSeen x (base.now ++ path.now) number s) port.old port.new result }
-    ensures stays { PortStays P.repository P.refusals P.is_mirror port.old port.new }
+    ensures stays { PortStays P.RepoPort port.old port.new }
 {
     let Ok(names) = joined(alloc, base, path) else {
         return Err(Stop::OutOfMemory);
@@ -76,9 +76,9 @@ pub fn see<P: RepoPort>(
 
 // When and by whom a node was last changed.
 fn made_for<P: RepoPort>(alloc: Global, port: &mut P, node: Option<&Node>) -> Result<Made, Stop>
-    ensures found { Finds P.repository P.refusals (λ x. None)
+    ensures found { Finds P.RepoPort (λ x. None)
         (λ x m. made_as m ≡ made_for x (option_copied node.entry)) port.old port.new result }
-    ensures stays { PortStays P.repository P.refusals P.is_mirror port.old port.new }
+    ensures stays { PortStays P.RepoPort port.old port.new }
 {
     match node {
         Some(node) => made_at(alloc, port, node.changed),

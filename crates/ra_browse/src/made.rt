@@ -33,9 +33,9 @@ impl Made {
 
 /// The same of a revision. A revision that isn't there has neither.
 pub fn made_at<P: RepoPort>(alloc: Global, port: &mut P, number: RevNo) -> Result<Made, Stop>
-    ensures found { Finds P.repository P.refusals (λ x. None) (λ x m. made_as m ≡ made_of x number)
+    ensures found { Finds P.RepoPort (λ x. None) (λ x m. made_as m ≡ made_of x number)
         port.old port.new result }
-    ensures stays { PortStays P.repository P.refusals P.is_mirror port.old port.new }
+    ensures stays { PortStays P.RepoPort port.old port.new }
 {
     match port.props(number) {
         Ok(props) => made_by(alloc, &props),

@@ -1,8 +1,9 @@
 -- What calls that ask a port for sets say of it.
-use Rattle.std.specs.Prelude.{◌≡◌, ℕ, Bool, Option, Some, None, Result, Ok, Err}
+use Rattle.std.specs.Prelude.{◌≡◌, ℕ, Option, Some, None, Result, Ok, Err}
 use Rattle.node_base.specs.declared.refusal.Refusal.{Refusal}
 use Rattle.repo_core.specs.Repository.{Repository}
 use Rattle.ra_serve.specs.Ports.{MayRefuse, Stays}
+use Rattle.ra_serve.specs.declared.port.RepoPort.{Ghosts}
 use Rattle.ra_history.specs.declared.stop.SetsStop.{SetsStop}
 use Rattle.ra_history.specs.declared.stop.SetsStop.TheVariants as stop
 
@@ -17,9 +18,9 @@ Comes before now due Is (Ok a) = (due ≡ None) × Is a
 Comes before now due Is (Err s) = MayStop before now due s
 
 -- the same of a port, where its repository was known
-abbrev pub Finds : {P A : Type 0} → (P → Option Repository) → (P → ℕ) → (Repository → Option Refusal) → (Repository → A → Type 0) → P → P → Result A SetsStop → Type 0
-Finds repository refusals due Is old new result = (x : Repository) → repository old ≡ Some x → Comes (refusals old) (refusals new) (due x) (Is x) result
+abbrev pub Finds : {P A : Type 0} → Ghosts P → (Repository → Option Refusal) → (Repository → A → Type 0) → P → P → Result A SetsStop → Type 0
+Finds G due Is old new result = (x : Repository) → G.repository old ≡ Some x → Comes (G.refusals old) (G.refusals new) (due x) (Is x) result
 
 -- and the port's repository stays what it is
-abbrev pub PortStays : {P : Type 0} → (P → Option Repository) → (P → ℕ) → (P → Bool) → P → P → Type 0
-PortStays repository refusals is_mirror old new = Stays (repository old) (repository new) (is_mirror old) (is_mirror new) (refusals old) (refusals new)
+abbrev pub PortStays : {P : Type 0} → Ghosts P → P → P → Type 0
+PortStays G old new = Stays (G.repository old) (G.repository new) (G.is_mirror old) (G.is_mirror new) (G.refusals old) (G.refusals new)

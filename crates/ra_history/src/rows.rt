@@ -18,11 +18,11 @@ fn push_props<P: RepoPort>(
     number: RevNo,
     row: &mut Vec<Props>,
 ) -> Result<(), SetsStop>
-    ensures found { Finds P.repository P.refusals (λ x. no_revision x number)
+    ensures found { Finds P.RepoPort (λ x. no_revision x number)
         (λ x _. row.old.items ≡ take number (props_of x.revisions)
         → row.new.items ≡ take (suc number) (props_of x.revisions))
         port.old port.new result }
-    ensures stays { PortStays P.repository P.refusals P.is_mirror port.old port.new }
+    ensures stays { PortStays P.RepoPort port.old port.new }
 {
     let next = match port.props(number) {
         Ok(next) => next,
@@ -41,9 +41,9 @@ pub fn props_up_to<P: RepoPort>(
     port: &mut P,
     last: RevNo,
 ) -> Result<Vec<Props>, SetsStop>
-    ensures found { Finds P.repository P.refusals (λ x. no_revision x last)
+    ensures found { Finds P.RepoPort (λ x. no_revision x last)
         (λ x v. v.items ≡ take (suc last) (props_of x.revisions)) port.old port.new result }
-    ensures stays { PortStays P.repository P.refusals P.is_mirror port.old port.new }
+    ensures stays { PortStays P.RepoPort port.old port.new }
 {
     let mut row = Vec::new(alloc);
     for number in 0..last.get() {
@@ -60,11 +60,11 @@ pub fn props_up_to<P: RepoPort>(
 
 // Puts the tree of a revision behind those of the revisions before it.
 fn push_tree<P: RepoPort>(port: &mut P, number: RevNo, row: &mut Vec<Tree>) -> Result<(), SetsStop>
-    ensures found { Finds P.repository P.refusals (λ x. no_revision x number)
+    ensures found { Finds P.RepoPort (λ x. no_revision x number)
         (λ x _. row.old.items ≡ take number (trees_of x.revisions)
         → row.new.items ≡ take (suc number) (trees_of x.revisions))
         port.old port.new result }
-    ensures stays { PortStays P.repository P.refusals P.is_mirror port.old port.new }
+    ensures stays { PortStays P.RepoPort port.old port.new }
 {
     let next = match port.tree(number) {
         Ok(next) => next,
@@ -83,9 +83,9 @@ pub fn trees_up_to<P: RepoPort>(
     port: &mut P,
     last: RevNo,
 ) -> Result<Vec<Tree>, SetsStop>
-    ensures found { Finds P.repository P.refusals (λ x. no_revision x last)
+    ensures found { Finds P.RepoPort (λ x. no_revision x last)
         (λ x v. v.items ≡ take (suc last) (trees_of x.revisions)) port.old port.new result }
-    ensures stays { PortStays P.repository P.refusals P.is_mirror port.old port.new }
+    ensures stays { PortStays P.RepoPort port.old port.new }
 {
     let mut row = Vec::new(alloc);
     for number in 0..last.get() {

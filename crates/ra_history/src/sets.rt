@@ -17,7 +17,7 @@ fn set_at<P: RepoPort>(port: &mut P, number: RevNo) -> Result<ChangeSet, PortFau
         → IfOk result (λ s. (no_revision x number ≡ None) × (s ≡ set_of x number)) }
     ensures refused { (x : Repository) → P.repository port.old ≡ Some x
         → IfErr result (λ f. MayRefuse (P.refusals port.old) (P.refusals port.new) f (no_revision x number)) }
-    ensures stays { PortStays P.repository P.refusals P.is_mirror port.old port.new }
+    ensures stays { PortStays P.RepoPort port.old port.new }
 {
     match port.replay_of(number) {
         Ok(replay) => {
@@ -34,10 +34,10 @@ fn push_set<P: RepoPort>(
     number: RevNo,
     sets: &mut Vec<ChangeSet>,
 ) -> Result<(), SetsStop>
-    ensures set { Finds P.repository P.refusals (λ x. no_revision x number)
+    ensures set { Finds P.RepoPort (λ x. no_revision x number)
         (λ x _. sets.old.items ≡ take number x.sets → sets.new.items ≡ take (suc number) x.sets)
         port.old port.new result }
-    ensures stays { PortStays P.repository P.refusals P.is_mirror port.old port.new }
+    ensures stays { PortStays P.RepoPort port.old port.new }
 {
     port.is_repository();
     let set = match set_at(port, number) {
@@ -57,9 +57,9 @@ pub fn sets_up_to<P: RepoPort>(
     port: &mut P,
     last: RevNo,
 ) -> Result<Vec<ChangeSet>, SetsStop>
-    ensures sets { Finds P.repository P.refusals (λ x. no_revision x last)
+    ensures sets { Finds P.RepoPort (λ x. no_revision x last)
         (λ x v. v.items ≡ take (suc last) x.sets) port.old port.new result }
-    ensures stays { PortStays P.repository P.refusals P.is_mirror port.old port.new }
+    ensures stays { PortStays P.RepoPort port.old port.new }
 {
     let mut sets = Vec::new(alloc);
     for number in 0..last.get() {

@@ -28,7 +28,7 @@ pub fn browse_to<P: RepoPort, I: Input + Drop, O: Output + Drop>(
         → Fails (meanwhile I.failures I.reads items.old items.new)) }
     ensures writer { IfErr result (λ u. IsToldOnlyBy O.failures (O.failures out) u.fault u.out) }
     ensures failures { I.failures (reader_of items.old) ≤ I.failures (reader_of items.new) }
-    ensures stays { PortStays P.repository P.refusals P.is_mirror port.old port.new }
+    ensures stays { PortStays P.RepoPort port.old port.new }
 {
     let before = out.count_failures();
     let mut back = None;

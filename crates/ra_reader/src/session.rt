@@ -57,7 +57,7 @@ pub fn browse<P: RepoPort, I: Input + Drop, W: Write + Drop>(
     ensures reader { IfErr result (λ f. f ≡ ServeFault.ReadFailed
         → Fails (meanwhile I.failures I.reads items.old items.new)) }
     ensures failures { I.failures (reader_of items.old) ≤ I.failures (reader_of items.new) }
-    ensures stays { PortStays P.repository P.refusals P.is_mirror port.old port.new }
+    ensures stays { PortStays P.RepoPort port.old port.new }
 {
     let out = greet(out)?;
     let item = match items.next() {
@@ -210,7 +210,7 @@ fn log_in<P: RepoPort, I: Input + Drop, W: Write + Drop>(
     ensures reader { IfErr result (λ f. f ≡ ServeFault.ReadFailed
         → Fails (meanwhile I.failures I.reads items.old items.new)) }
     ensures failures { I.failures (reader_of items.old) ≤ I.failures (reader_of items.new) }
-    ensures stays { PortStays P.repository P.refusals P.is_mirror port.old port.new }
+    ensures stays { PortStays P.RepoPort port.old port.new }
 {
     let identity = port.identity();
     let out = ask_who(&identity, out)?;
@@ -333,7 +333,7 @@ fn commands<P: RepoPort, I: Input + Drop, W: Write + Drop>(
     ensures reader { IfErr result (λ f. f ≡ ServeFault.ReadFailed
         → Fails (meanwhile I.failures I.reads items.old items.new)) }
     ensures failures { I.failures (reader_of items.old) ≤ I.failures (reader_of items.new) }
-    ensures stays { PortStays P.repository P.refusals P.is_mirror port.old port.new }
+    ensures stays { PortStays P.RepoPort port.old port.new }
 {
     let mut here = place;
     let mut phase = Phase::Idle;
@@ -363,7 +363,7 @@ fn turn<P: RepoPort, W: Write + Drop>(
 ) -> Result<(Phase, W), ServeFault>
     ensures told { IfOk result (λ r. Turns P.repository P.refusals W.contents (standing_as place.old phase) item
         port.old port.new out r.1 (standing_as place.new r.0)) }
-    ensures stays { PortStays P.repository P.refusals P.is_mirror port.old port.new }
+    ensures stays { PortStays P.RepoPort port.old port.new }
     ensures writer { IfErr result (λ f. f ≡ ServeFault.ReadFailed → ⊥) }
 {
     match take(alloc, port, place, phase, item, out) {

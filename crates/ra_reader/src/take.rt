@@ -48,7 +48,7 @@ pub fn take<P: RepoPort, W: Write + Drop>(
 ) -> Result<(Phase, W), ServeFault>
     ensures told { IfOk result (λ r. Turns P.repository P.refusals W.contents (standing_as place.old phase) item
         port.old port.new out r.1 (standing_as place.new r.0)) }
-    ensures stays { PortStays P.repository P.refusals P.is_mirror port.old port.new }
+    ensures stays { PortStays P.RepoPort port.old port.new }
 {
     match phase {
         Phase::Idle => take_command(alloc, port, place, item, out),
@@ -68,7 +68,7 @@ fn take_command<P: RepoPort, W: Write + Drop>(
 ) -> Result<(Phase, W), ServeFault>
     ensures told { IfOk result (λ r. Turns P.repository P.refusals W.contents (ready_at (place_as place.old)) item
         port.old port.new out r.1 (standing_as place.new r.0)) }
-    ensures stays { PortStays P.repository P.refusals P.is_mirror port.old port.new }
+    ensures stays { PortStays P.RepoPort port.old port.new }
 {
     match BrowseCommand::parse(alloc, item) {
         Ok(command) => follow(alloc, port, place, command, out),
@@ -90,7 +90,7 @@ fn follow<P: RepoPort, W: Write + Drop>(
 ) -> Result<(Phase, W), ServeFault>
     ensures told { (item : Item) → ask_in item ≡ Ok (ask_as command) → IfOk result (λ r. Turns P.repository P.refusals
         W.contents (ready_at (place_as place.old)) item port.old port.new out r.1 (standing_as place.new r.0)) }
-    ensures stays { PortStays P.repository P.refusals P.is_mirror port.old port.new }
+    ensures stays { PortStays P.RepoPort port.old port.new }
 {
     if awaits_report(&command) {
         return take_order(alloc, place, command, out);
@@ -134,7 +134,7 @@ fn take_report<P: RepoPort, W: Write + Drop>(
 ) -> Result<(Phase, W), ServeFault>
     ensures told { IfOk result (λ r. Turns P.repository P.refusals W.contents (reporting_as place.now order) item
         port.old port.new out r.1 (standing_as place.now r.0)) }
-    ensures stays { PortStays P.repository P.refusals P.is_mirror port.old port.new }
+    ensures stays { PortStays P.RepoPort port.old port.new }
 {
     match said_by(alloc, item) {
         Ok(Said::More(report)) => {
@@ -177,7 +177,7 @@ fn take_end<P: RepoPort, W: Write + Drop>(
 ) -> Result<(Phase, W), ServeFault>
     ensures told { (item : Item) → said_in (report_in item) ≡ AtEnd → IfOk result (λ r. Turns P.repository P.refusals
         W.contents (reporting_as place.now order) item port.old port.new out r.1 (standing_as place.now r.0)) }
-    ensures stays { PortStays P.repository P.refusals P.is_mirror port.old port.new }
+    ensures stays { PortStays P.RepoPort port.old port.new }
 {
     match finish(
         alloc,

@@ -35,7 +35,7 @@ pub fn finish<P: RepoPort, W: Write + Drop>(
 ) -> Result<(W, bool), ServeFault>
     ensures told { IfOk result (λ r. Finishes P.repository P.refusals W.contents (place_as place.now)
         (ask_as command.now) (map report_as report.now) port.old port.new out r.0 r.1) }
-    ensures stays { PortStays P.repository P.refusals P.is_mirror port.old port.new }
+    ensures stays { PortStays P.RepoPort port.old port.new }
 {
     match plan_of(alloc, port, place, command, report) {
         Ok(plan) => answer(alloc, &plan, out),

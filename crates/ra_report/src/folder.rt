@@ -30,9 +30,9 @@ pub fn look_up<P: RepoPort>(
     place: &NodePath,
     target: &NodePath,
 ) -> Result<Wanted, Stop>
-    ensures found { Finds P.repository P.refusals (λ x. wanted_denied x revision place.now target.now)
+    ensures found { Finds P.RepoPort (λ x. wanted_denied x revision place.now target.now)
         (λ x w. IsWanted x revision (wanted_in x revision place.now target.now) w) port.old port.new result }
-    ensures stays { PortStays P.repository P.refusals P.is_mirror port.old port.new }
+    ensures stays { PortStays P.RepoPort port.old port.new }
 {
     match tree_asked(port, revision) {
         Ok((number, tree)) => wanted_in(alloc, number, tree, place, target),

@@ -72,12 +72,12 @@ pub fn plan_of<P: RepoPort>(
     command: &BrowseCommand,
     report: &[ReportCommand],
 ) -> Result<Plan, Stop>
-    ensures found { Finds P.repository P.refusals
+    ensures found { Finds P.RepoPort
         (λ x. report_denied x (place_as place.now) (ask_as command.now) (map report_as report.now))
         (λ x p. IsPlan x (place_as place.now) (revision_of (ask_as command.now))
         (place_of (place_as place.now) (ask_as command.now)) (target_of (ask_as command.now)) (depth_of (ask_as command.now))
         (keeps (ask_as command.now)) (map report_as report.now) p) port.old port.new result }
-    ensures stays { PortStays P.repository P.refusals P.is_mirror port.old port.new }
+    ensures stays { PortStays P.RepoPort port.old port.new }
 {
     match order_of(alloc, place, command) {
         Ok(order) => plan_by(alloc, port, place, &order, report),
@@ -93,12 +93,12 @@ fn plan_by<P: RepoPort>(
     order: &Order,
     report: &[ReportCommand],
 ) -> Result<Plan, Stop>
-    ensures found { Finds P.repository P.refusals
+    ensures found { Finds P.RepoPort
         (λ x. edit_denied x (place_as place.now) order.now.revision order.now.path order.now.target order.now.keeps
         (map report_as report.now))
         (λ x p. IsPlan x (place_as place.now) order.now.revision order.now.path order.now.target order.now.depth order.now.keeps
         (map report_as report.now) p) port.old port.new result }
-    ensures stays { PortStays P.repository P.refusals P.is_mirror port.old port.new }
+    ensures stays { PortStays P.RepoPort port.old port.new }
 {
     match plan_for(alloc, port, place, order, report) {
         Ok(plan) => trimmed(alloc, plan, &order.target, order.depth, report),
@@ -114,12 +114,12 @@ fn plan_for<P: RepoPort>(
     order: &Order,
     report: &[ReportCommand],
 ) -> Result<Plan, Stop>
-    ensures found { Finds P.repository P.refusals
+    ensures found { Finds P.RepoPort
         (λ x. edit_denied x (place_as place.now) order.now.revision order.now.path order.now.target order.now.keeps
         (map report_as report.now))
         (λ x p. IsFullPlan x (place_as place.now) order.now.revision order.now.path order.now.target order.now.keeps
         (map report_as report.now) p) port.old port.new result }
-    ensures stays { PortStays P.repository P.refusals P.is_mirror port.old port.new }
+    ensures stays { PortStays P.RepoPort port.old port.new }
 {
     match look_up(alloc, port, order.revision, &order.path, &order.target) {
         Ok(wanted) => plan_from(alloc, port, place, order, wanted, report),
@@ -136,14 +136,14 @@ fn plan_from<P: RepoPort>(
     wanted: Wanted,
     report: &[ReportCommand],
 ) -> Result<Plan, Stop>
-    ensures found { Finds P.repository P.refusals
+    ensures found { Finds P.RepoPort
         (λ x. option_or (reports_denied x (place_as place.now) order.now.target (map report_as report.now))
         (option_or (switches_denied (finite.get wanted.tree) wanted.whole (kept order.now.keeps
         (reported x (place_as place.now) order.now.target (map report_as report.now)).switches)) (no_revision x wanted.number)))
         (λ x p. IsPlanOf x (reported x (place_as place.now) order.now.target (map report_as report.now))
         (base_of (map report_as report.now)) order.now.keeps (same_path order.now.target []) wanted p)
         port.old port.new result }
-    ensures stays { PortStays P.repository P.refusals P.is_mirror port.old port.new }
+    ensures stays { PortStays P.RepoPort port.old port.new }
 {
     match working_copy(alloc, port, place, &order.target, report) {
         Ok(copy) => plan_with(alloc, port, order, wanted, copy),
@@ -159,12 +159,12 @@ fn plan_with<P: RepoPort>(
     wanted: Wanted,
     copy: WorkingCopy,
 ) -> Result<Plan, Stop>
-    ensures found { Finds P.repository P.refusals
+    ensures found { Finds P.RepoPort
         (λ x. option_or (switches_denied (finite.get wanted.tree) wanted.whole (kept order.now.keeps copy.switches.items))
         (no_revision x wanted.number))
         (λ x p. IsPlanOf x (having (content_at copy.report) copy.switches.items) (Some copy.base) order.now.keeps
         (same_path order.now.target []) wanted p) port.old port.new result }
-    ensures stays { PortStays P.repository P.refusals P.is_mirror port.old port.new }
+    ensures stays { PortStays P.RepoPort port.old port.new }
 {
     match follow(alloc, wanted, kept(order.keeps, copy.switches.as_slice())) {
         Ok(wanted) => planned(alloc, port, wanted, copy, order.target.is_root()),
@@ -180,9 +180,9 @@ fn planned<P: RepoPort>(
     copy: WorkingCopy,
     tells_root: bool,
 ) -> Result<Plan, Stop>
-    ensures found { Finds P.repository P.refusals (λ x. no_revision x wanted.number)
+    ensures found { Finds P.RepoPort (λ x. no_revision x wanted.number)
         (λ x p. IsPlanned x wanted copy tells_root p) port.old port.new result }
-    ensures stays { PortStays P.repository P.refusals P.is_mirror port.old port.new }
+    ensures stays { PortStays P.RepoPort port.old port.new }
 {
     let identity = port.identity();
     match props_up_to(alloc, port, wanted.number) {

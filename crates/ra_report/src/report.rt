@@ -41,11 +41,11 @@ pub fn working_copy<P: RepoPort>(
     target: &NodePath,
     report: &[ReportCommand],
 ) -> Result<WorkingCopy, Stop>
-    ensures found { Finds P.repository P.refusals
+    ensures found { Finds P.RepoPort
         (λ x. reports_denied x (place_as place.now) target.now (map report_as report.now))
         (λ x c. IsCopy (reported x (place_as place.now) target.now (map report_as report.now))
         (base_of (map report_as report.now)) c) port.old port.new result }
-    ensures stays { PortStays P.repository P.refusals P.is_mirror port.old port.new }
+    ensures stays { PortStays P.RepoPort port.old port.new }
 {
     match aimed_all(alloc, target, report) {
         Ok(all) => whole(alloc, port, place, target, all.as_slice()),
@@ -61,11 +61,11 @@ fn whole<P: RepoPort>(
     target: &NodePath,
     report: &[ReportCommand],
 ) -> Result<WorkingCopy, Stop>
-    ensures found { Finds P.repository P.refusals
+    ensures found { Finds P.RepoPort
         (λ x. whole_denied x (place_as place.now) target.now (map report_as report.now))
         (λ x c. IsCopy (whole x (place_as place.now) target.now (map report_as report.now))
         (base_of (map report_as report.now)) c) port.old port.new result }
-    ensures stays { PortStays P.repository P.refusals P.is_mirror port.old port.new }
+    ensures stays { PortStays P.RepoPort port.old port.new }
 {
     let Some((first, rest)) = report.split_first() else {
         return Err(Stop::Denied(Denial::BadReport));
@@ -84,10 +84,10 @@ fn begun<P: RepoPort>(
     target: &NodePath,
     command: &ReportCommand,
 ) -> Result<WorkingCopy, Stop>
-    ensures found { Finds P.repository P.refusals (λ x. begin_denied x (place_as place.now) target.now (report_as command.now))
+    ensures found { Finds P.RepoPort (λ x. begin_denied x (place_as place.now) target.now (report_as command.now))
         (λ x c. IsCopy (having (begin_known x (place_as place.now) target.now (report_as command.now)) []) (base_in (report_as command.now)) c)
         port.old port.new result }
-    ensures stays { PortStays P.repository P.refusals P.is_mirror port.old port.new }
+    ensures stays { PortStays P.RepoPort port.old port.new }
 {
     match command {
         ReportCommand::SetPath(path) => begun_by(alloc, port, place, target, path),
@@ -103,11 +103,11 @@ fn begun_by<P: RepoPort>(
     target: &NodePath,
     path: &Reported,
 ) -> Result<WorkingCopy, Stop>
-    ensures found { Finds P.repository P.refusals
+    ensures found { Finds P.RepoPort
         (λ x. begin_denied x (place_as place.now) target.now (SetPath (reported_as path.now)))
         (λ x c. IsCopy (having (begin_known x (place_as place.now) target.now (SetPath (reported_as path.now))) [])
         (base_in (SetPath (reported_as path.now))) c) port.old port.new result }
-    ensures stays { PortStays P.repository P.refusals P.is_mirror port.old port.new }
+    ensures stays { PortStays P.RepoPort port.old port.new }
 {
     if !path.path.compare(target).is_eq() {
         return Err(Stop::Denied(Denial::BadReport));
@@ -125,11 +125,11 @@ fn begun_here<P: RepoPort>(
     revision: u64,
     shown: Shown,
 ) -> Result<WorkingCopy, Stop>
-    ensures found { Finds P.repository P.refusals (λ x. option_or (fault_if (not (fits (here.now ++ target.now))) NoPath)
+    ensures found { Finds P.RepoPort (λ x. option_or (fault_if (not (fits (here.now ++ target.now))) NoPath)
         (option_or (no_revision x revision) (begun_denied target.now shown (tree_of x revision) (here.now ++ target.now))))
         (λ x c. IsCopy (having (begun target.now shown (tree_of x revision) (here.now ++ target.now)) []) (Some revision) c)
         port.old port.new result }
-    ensures stays { PortStays P.repository P.refusals P.is_mirror port.old port.new }
+    ensures stays { PortStays P.RepoPort port.old port.new }
 {
     match path_in(alloc, here, target) {
         Ok(source) => begun_at(alloc, port, &source, target, revision, shown),
@@ -146,11 +146,11 @@ fn begun_at<P: RepoPort>(
     revision: u64,
     shown: Shown,
 ) -> Result<WorkingCopy, Stop>
-    ensures found { Finds P.repository P.refusals (λ x. option_or (no_revision x revision)
+    ensures found { Finds P.RepoPort (λ x. option_or (no_revision x revision)
         (begun_denied target.now shown (tree_of x revision) source.now))
         (λ x c. IsCopy (having (begun target.now shown (tree_of x revision) source.now) []) (Some revision) c)
         port.old port.new result }
-    ensures stays { PortStays P.repository P.refusals P.is_mirror port.old port.new }
+    ensures stays { PortStays P.RepoPort port.old port.new }
 {
     match tree_asked(port, Some(revision)) {
         Ok((base, tree)) => begun_with(alloc, base, &tree, source, target, shown),
@@ -287,11 +287,11 @@ fn go_on<P: RepoPort>(
     copy: WorkingCopy,
     rest: &[ReportCommand],
 ) -> Result<WorkingCopy, Stop>
-    ensures found { Finds P.repository P.refusals
+    ensures found { Finds P.RepoPort
         (λ x. later_denied x (place_as place.now) (having (content_at copy.report) copy.switches.items) (map report_as rest.now))
         (λ x c. IsCopy (later x (place_as place.now) (having (content_at copy.report) copy.switches.items)
         (map report_as rest.now)) (Some copy.base) c) port.old port.new result }
-    ensures stays { PortStays P.repository P.refusals P.is_mirror port.old port.new }
+    ensures stays { PortStays P.RepoPort port.old port.new }
 {
     let WorkingCopy {
         report,
@@ -319,12 +319,12 @@ fn take_all<P: RepoPort>(
     switches: &mut Vec<Switched>,
     rest: &[ReportCommand],
 ) -> Result<(), Stop>
-    ensures found { Finds P.repository P.refusals
+    ensures found { Finds P.RepoPort
         (λ x. later_denied x (place_as place.now) (having (content_at report.old) switches.old.items) (map report_as rest.now))
         (λ x _. having (content_at report.new) switches.new.items
         ≡ later x (place_as place.now) (having (content_at report.old) switches.old.items) (map report_as rest.now))
         port.old port.new result }
-    ensures stays { PortStays P.repository P.refusals P.is_mirror port.old port.new }
+    ensures stays { PortStays P.RepoPort port.old port.new }
 {
     for command in rest {
         match take(alloc, port, place, report, switches, command) {

@@ -13,10 +13,10 @@ use std::alloc::Global;
 
 // Puts the properties of a revision behind those of the revisions before it.
 fn push_props<P: RepoPort>(port: &mut P, number: RevNo, all: &mut Vec<Props>) -> Result<(), Stop>
-    ensures found { Finds P.repository P.refusals (λ x. no_revision x number)
+    ensures found { Finds P.RepoPort (λ x. no_revision x number)
         (λ x _. all.old.items ≡ take number (all_props x) → all.new.items ≡ take (suc number) (all_props x))
         port.old port.new result }
-    ensures stays { PortStays P.repository P.refusals P.is_mirror port.old port.new }
+    ensures stays { PortStays P.RepoPort port.old port.new }
 {
     let props = match port.props(number) {
         Ok(props) => props,
@@ -34,9 +34,9 @@ pub fn props_up_to<P: RepoPort>(
     port: &mut P,
     last: RevNo,
 ) -> Result<Vec<Props>, Stop>
-    ensures found { Finds P.repository P.refusals (λ x. no_revision x last)
+    ensures found { Finds P.RepoPort (λ x. no_revision x last)
         (λ x v. v.items ≡ take (suc last) (all_props x)) port.old port.new result }
-    ensures stays { PortStays P.repository P.refusals P.is_mirror port.old port.new }
+    ensures stays { PortStays P.RepoPort port.old port.new }
 {
     let mut all = Vec::new(alloc);
     for number in 0..last.get() {

@@ -37,12 +37,12 @@ pub fn take<P: RepoPort>(
     switches: &mut Vec<Switched>,
     command: &ReportCommand,
 ) -> Result<(), Stop>
-    ensures found { Finds P.repository P.refusals
+    ensures found { Finds P.RepoPort
         (λ x. next_denied x (place_as place.now) (having (content_at report.old) switches.old.items) (report_as command.now))
         (λ x _. having (content_at report.new) switches.new.items
         ≡ next x (place_as place.now) (having (content_at report.old) switches.old.items) (report_as command.now))
         port.old port.new result }
-    ensures stays { PortStays P.repository P.refusals P.is_mirror port.old port.new }
+    ensures stays { PortStays P.RepoPort port.old port.new }
 {
     match command {
         ReportCommand::SetPath(path) => {
@@ -66,12 +66,12 @@ fn set_path<P: RepoPort>(
     switches: &[Switched],
     path: &Reported,
 ) -> Result<(), Stop>
-    ensures found { Finds P.repository P.refusals
+    ensures found { Finds P.RepoPort
         (λ x. next_denied x (place_as place.now) (having (content_at report.old) switches.now) (SetPath (reported_as path.now)))
         (λ x _. having (content_at report.new) switches.now
         ≡ next x (place_as place.now) (having (content_at report.old) switches.now) (SetPath (reported_as path.now)))
         port.old port.new result }
-    ensures stays { PortStays P.repository P.refusals P.is_mirror port.old port.new }
+    ensures stays { PortStays P.RepoPort port.old port.new }
 {
     match lying(alloc, &place.path, switches, &path.path) {
         Ok(source) => bring(alloc, port, report, path, &source),
@@ -89,12 +89,12 @@ fn link_path<P: RepoPort>(
     path: &Reported,
     url: &[u8],
 ) -> Result<(), Stop>
-    ensures found { Finds P.repository P.refusals
+    ensures found { Finds P.RepoPort
         (λ x. next_denied x (place_as place.now) (having (content_at report.old) switches.old.items) (LinkPath (reported_as path.now) url.now))
         (λ x _. having (content_at report.new) switches.new.items
         ≡ next x (place_as place.now) (having (content_at report.old) switches.old.items) (LinkPath (reported_as path.now) url.now))
         port.old port.new result }
-    ensures stays { PortStays P.repository P.refusals P.is_mirror port.old port.new }
+    ensures stays { PortStays P.RepoPort port.old port.new }
 {
     if let Some(why) = links_denied(switches.as_slice()) {
         return Err(Stop::Denied(why));
@@ -114,12 +114,12 @@ fn switch<P: RepoPort>(
     path: &Reported,
     source: NodePath,
 ) -> Result<(), Stop>
-    ensures found { Finds P.repository P.refusals
+    ensures found { Finds P.RepoPort
         (λ x. source_denied x (content_at report.old) (reported_as path.now) source)
         (λ x _. having (content_at report.new) switches.new.items
         ≡ having (with_source x (content_at report.old) (reported_as path.now) source)
         (switches.old.items ++ switched path.now.path source ∷ [])) port.old port.new result }
-    ensures stays { PortStays P.repository P.refusals P.is_mirror port.old port.new }
+    ensures stays { PortStays P.RepoPort port.old port.new }
 {
     match bring(alloc, port, report, path, &source) {
         Ok(()) => push_switched(alloc, switches, &path.path, source),
@@ -165,11 +165,11 @@ fn bring<P: RepoPort>(
     path: &Reported,
     source: &NodePath,
 ) -> Result<(), Stop>
-    ensures found { Finds P.repository P.refusals
+    ensures found { Finds P.RepoPort
         (λ x. source_denied x (content_at report.old) (reported_as path.now) source.now)
         (λ x _. (q : Path) → content_at report.new q
         ≡ with_source x (content_at report.old) (reported_as path.now) source.now q) port.old port.new result }
-    ensures stays { PortStays P.repository P.refusals P.is_mirror port.old port.new }
+    ensures stays { PortStays P.RepoPort port.old port.new }
 {
     match tree_asked(port, Some(path.revision)) {
         Ok((_, tree)) => {

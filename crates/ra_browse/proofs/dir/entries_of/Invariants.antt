@@ -8,4 +8,4 @@ use Rattle.ra_browse.proofs.dir.entries_of.Given as goal
 abbrev pub invariant-loop : goal.invariant-loop
 invariant-loop g l =
     ((x : Repository) → g.P.RepoPort.repository l.fn.port ≡ Some x → map dirent_as l.entries.items ++ map (entry_of x) l.children ≡ map (entry_of x) l.fn.children)
-    × PortStays g.P.RepoPort.repository g.P.RepoPort.refusals g.P.RepoPort.is_mirror l.fn.port l.port
+    × PortStays g.P.RepoPort l.fn.port l.port

@@ -9,4 +9,4 @@ invariant-loop-number g l =
     (l.number ≤ l.fn.last)
     × (l.number-end ≡ l.fn.last)
     × ((x : Repository) → g.P.RepoPort.repository l.fn.port ≡ Some x → l.row.items ≡ take l.number (props_of x.revisions))
-    × PortStays g.P.RepoPort.repository g.P.RepoPort.refusals g.P.RepoPort.is_mirror l.fn.port l.port
+    × PortStays g.P.RepoPort l.fn.port l.port

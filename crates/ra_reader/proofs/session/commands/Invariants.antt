@@ -10,6 +10,6 @@ use Rattle.ra_reader.proofs.session.commands.Given as goal
 abbrev pub invariant-loop : goal.invariant-loop
 invariant-loop g l =
     ((x : Repository) → g.P.RepoPort.repository l.fn.port ≡ Some x → Going x (ready_at (place_as l.fn.place)) (standing_as l.here l.phase) (g.P.RepoPort.refusals l.fn.port) (g.P.RepoPort.refusals l.port) (g.W.Write.contents l.fn.out) (g.W.Write.contents l.sent) (g.I.Input.remaining (reader_of l.fn.items)) (g.I.Input.remaining (reader_of l.items)) (ahead l.fn.items) (ahead l.items))
-    × PortStays g.P.RepoPort.repository g.P.RepoPort.refusals g.P.RepoPort.is_mirror l.fn.port l.port
+    × PortStays g.P.RepoPort l.fn.port l.port
     × (is_spent l.items ≡ true → is_spent l.fn.items ≡ true)
     × (g.I.Input.failures (reader_of l.fn.items) ≤ g.I.Input.failures (reader_of l.items))
