@@ -68,7 +68,7 @@ pub const ARCHIVE: &[Subcommand<'static>] = &[
             Word {
                 name: "uuid",
                 kind: WordKind::Named("UUID"),
-                help: "The identity, as 8-4-4-4-12 hexadecimal digits",
+                help: "The identity, as 8-4-4-4-12 hexadecimal digits; capital letters become small",
             },
         ],
     },
@@ -208,7 +208,7 @@ pub const MIRRORS: &[Subcommand<'static>] = &[
             Word {
                 name: "browse",
                 kind: WordKind::Flag,
-                help: "Answer svn's ls, cat, info and propget, and not svnsync and svnrdump",
+                help: "Answer readers with svn, working copies too, and not svnsync and svnrdump",
             },
         ],
     },

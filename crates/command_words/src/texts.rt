@@ -111,9 +111,10 @@ mirror, which is served read-only (24). Each change that was answered stands aft
 svnsync and svnrdump take the repository only under the URL that they are told as its root. To those that come by another
 port or name, as by a tunnel, --root-url tells the URL that they name: svn:// or svn+ssh:// and a host, and a port and a
 path where there are some, at most 1024 printable ASCII characters without blanks. It is told as it is given.
-With --browse `svn ls`, `cat`, `info`, `proplist` and `propget` are answered, of each path in each revision, which is
-named as URL@N or by -r, by each port and name that clients come by. svnsync, svnrdump, mirrors and changes of
-properties are refused then.
+With --browse `svn ls`, `cat`, `info`, `log`, `blame`, `proplist` and `propget` are answered, of each path in each
+revision, which is named as URL@N or by -r, and for working copies `checkout`, `export`, `update`, `switch`, `diff` and
+`status -u`, by each port and name that clients come by. svnsync, svnrdump, mirrors and changes of properties are
+refused then.
 A client that says nothing, or reads nothing, for SECONDS ends its own connection. One that can't be accepted, as
 where too many files are open, waits until another has ended. Standard error has a line for that (49) and for a
 connection in which the device failed (31, 32), the journal was full (36) or memory ran out (70), one for each number
