@@ -315,6 +315,6 @@ printf '#!/bin/sh\n' >"$pages/srv/again/hooks/pre-revprop-change"
 chmod +x "$pages/srv/again/hooks/pre-revprop-change"
 check 'manual: a copy by svnsync' typed "$(block_of "$top/docs/svnfleet.1" 'svnsync init' | sed '1s|$| >served \& sleep 1|; s|/srv/svn/copy|/srv/svn/again|; $s|$|; kill %1|')"
 check 'manual: the copy has all' test "$(svnlook youngest "$pages/srv/again")" -eq 20
-check 'manual: a journal is loaded' typed "$(block_of "$top/docs/svnfleet.1" 'load new' | sed "s/UUID/$identity/")"
+check 'manual: what is saved is loaded' typed "$(block_of "$top/docs/svnfleet.1" 'load new' | sed 's/salvage damaged/salvage archive/')"
 check 'manual: it has all' grep -qx 'Loaded revision 20.' said
 cd "$work" || exit 1
