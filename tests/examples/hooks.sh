@@ -118,6 +118,19 @@ cp -r repo broken
 rm broken/db/revs/0/10
 check 'hook: a repository that breaks off' ends 1 "$examples/post-commit" broken 12
 check 'hook: the first revision that is missing' grep -qx "revision 10 isn't archived: the next commit tries again" errors
+# (and a dump of it that breaks off between two changes of a revision)
+svnadmin create halves
+printf 'one\n' >text
+svn import -q -m first text "file://$PWD/halves/a" && svnmucc -m both put text "file://$PWD/halves/b" put text "file://$PWD/halves/c" >said
+"$program" create halved --uuid "$(svnlook uuid halves)" </dev/null
+printf 'program=%s\narchive=%s\n' "$program" "$PWD/halved" >halves/conf/svnfleet-archive
+mkdir cut
+printf '#!/bin/sh\n"%s" "$@" | sed "/^Node-path: c$/,\\$d"\nexit 1\n' "$(command -v svnadmin)" >cut/svnadmin
+chmod +x cut/svnadmin
+check 'hook: a dump that breaks off between two changes' ends 1 env PATH="$PWD/cut:$PATH" "$examples/post-commit" halves 2
+check 'hook: its revision is named' grep -qx "revision 2 isn't archived: the next commit tries again" errors
+check 'hook: nothing of it is archived' test "$("$program" head halved </dev/null)" = 1
+check 'hook: the next one brings it along' ends 0 "$examples/post-commit" halves 2
 cp -r repo mirrored
 printf 'file:///elsewhere' >text
 svnadmin setrevprop mirrored -r 0 svn:sync-from-url text

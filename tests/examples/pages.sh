@@ -214,6 +214,9 @@ check 'OPERATING: its timer is begun' test "$(tail -n 1 "$pages/called")" = 'sys
 operated 'Build a mirror anew' 1
 check 'OPERATING: the new mirror is brought up' grep -qx 'Committed revision 25.' said
 check 'OPERATING: it has its place' has mirror 25
+check 'OPERATING: the old one is kept' has old 25
+operated 'Build a mirror anew' 2
+check 'OPERATING: it has what the archive has' test "$(cat said)" = 25
 check 'OPERATING: nothing else is left' test -z "$(ls -d old* fresh* 2>/dev/null)"
 
 operated 'Compare' 1

@@ -155,6 +155,15 @@ check 'salvage: the head of an edit: what is told' grep -qx 'entry 10: a revisio
 check 'salvage: the head of an edit: the rest is saved' test "$(cat refused; tail -n 1 loaded)" = 'Loaded revision 8.'
 check 'salvage: the head of an edit: it has the message of before' grep -q '^an import of two' new.dump
 
+# the end of one entry and the beginning of the next: those behind them keep their numbers
+rm -rf damaged && cp -r sound damaged
+at=$(grep -abo '^Revision-number: 7$' damaged/journal | head -n 1 | cut -d: -f1)
+head -c 40 /dev/zero | dd of=damaged/journal bs=1 seek=$((at - 10)) conv=notrunc 2>/dev/null
+check 'salvage: the border of two entries' salvages 1
+check 'salvage: the border of two entries: no other is told' sh -c '! grep -v "^entry [78][,:]" errors'
+check 'salvage: the border of two entries: those behind are saved' test "$(cat refused; tail -n 1 loaded)" = 'Loaded revision 8.'
+check 'salvage: the border of two entries: with their numbers' sh -c '"$1" dump sound -r 8:8 >one.dump && "$1" dump new -r 8:8 >two.dump && cmp one.dump two.dump' sh "$program"
+
 rm -rf damaged && cp -r sound damaged
 truncate -s -20 damaged/journal
 check 'salvage: a journal that is cut' is_damaged 10
