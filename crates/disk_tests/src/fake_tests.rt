@@ -18,6 +18,7 @@ use std::rt::Files;
 struct Asked {
     fails: Cell<bool>,
     holds: Cell<u32>,
+    moved: Cell<bool>,
     syncs: Cell<u32>,
     gate_syncs: Cell<u32>,
     folder_syncs: Cell<u32>,
@@ -186,11 +187,15 @@ impl<'a> HeldFiles for FakeHost<'a> {
         file.asked.answer(true)
     }
 
+    // A file that is held isn't held again, unless it is another one: the folder was moved.
     fn hold(&self, file: &FakeFile<'a>) -> io::Result<()> {
-        file.asked
-            .holds
-            .set(file.asked.holds.get().saturating_add(1));
-        file.asked.answer(())
+        let holds = file.asked.holds.get();
+        file.asked.holds.set(holds.saturating_add(1));
+        file.asked.answer(())?;
+        if holds > 0 && !file.asked.moved.get() {
+            return Err(io::Error::from(ErrorKind::WouldBlock));
+        }
+        Ok(())
     }
 }
 
@@ -198,6 +203,7 @@ fn nothing_asked() -> Asked {
     Asked {
         fails: Cell::new(false),
         holds: Cell::new(0),
+        moved: Cell::new(false),
         syncs: Cell::new(0),
         gate_syncs: Cell::new(0),
         folder_syncs: Cell::new(0),
@@ -222,15 +228,15 @@ fn was_asked(asked: &Asked, holds: u32, syncs: u32, folder_syncs: u32) -> bool {
 
 // Whether a first sync reaches the three files, and a second none.
 fn syncs_all<'a>(disk: &mut HostDisk<StdFiles<FakeFile<'a>>>, asked: &Asked) -> bool {
-    was_asked(asked, 1, 0, 1)
+    was_asked(asked, 2, 0, 1)
         && disk.sync().is_ok()
-        && was_asked(asked, 1, 3, 1)
+        && was_asked(asked, 2, 3, 1)
         && disk.sync().is_ok()
-        && was_asked(asked, 1, 3, 1)
+        && was_asked(asked, 2, 3, 1)
 }
 
 // A first sync reaches all files, a later one those that were changed since, and making them the folder. One file is
-// held.
+// held, and asked for once more when all are open.
 #[test]
 fn what_a_folder_is_asked(rt: HostRuntime) {
     let asked = nothing_asked();
@@ -245,7 +251,7 @@ fn cuts_one<'a>(disk: &mut HostDisk<StdFiles<FakeFile<'a>>>, asked: &Asked) -> b
         && disk.sync().is_ok()
         && asked.cut_to.get() == 5
         && asked.gate_syncs.get() == 2
-        && was_asked(asked, 1, 4, 1)
+        && was_asked(asked, 2, 4, 1)
 }
 
 // Whether writes of the three files and the sync behind them ask for that, each byte at its place. The first write is
@@ -257,7 +263,7 @@ fn writes_all<'a>(disk: &mut HostDisk<StdFiles<FakeFile<'a>>>, asked: &Asked) ->
         && disk.write_at(DiskFile::Gate, 9, b"abc").is_ok()
         && disk.write_at(DiskFile::Slots, 9, b"abc").is_ok()
         && disk.sync().is_ok()
-        && was_asked(asked, 1, 7, 1)
+        && was_asked(asked, 2, 7, 1)
         && disk.len(DiskFile::Journal) == Ok(7)
 }
 
@@ -281,7 +287,7 @@ fn what_a_completion_is_asked(rt: HostRuntime) {
     let asked = nothing_asked();
     let host = FakeHost { asked: &asked };
     assert!(rt; !is_refused(completed_disk(&host, rt.alloc(), "folder")));
-    assert!(rt; was_asked(&asked, 1, 0, 1));
+    assert!(rt; was_asked(&asked, 2, 0, 1));
 }
 
 // A folder whose journal is held by another is neither made, nor opened, nor completed.
@@ -295,6 +301,19 @@ fn a_folder_that_is_held(rt: HostRuntime) {
     assert!(rt; is_refused(opened_disk(&host, alloc, "folder")));
     assert!(rt; is_refused(completed_disk(&host, alloc, "folder")));
     assert!(rt; was_asked(&asked, 3, 0, 0));
+}
+
+// A folder that was moved while its files were opened isn't lent: what has its name now isn't held.
+#[test]
+fn a_folder_that_was_moved(rt: HostRuntime) {
+    let alloc = rt.alloc();
+    let asked = nothing_asked();
+    asked.moved.set(true);
+    let host = FakeHost { asked: &asked };
+    assert!(rt; is_refused(made_disk(&host, alloc, "folder")));
+    assert!(rt; is_refused(opened_disk(&host, alloc, "folder")));
+    assert!(rt; is_refused(completed_disk(&host, alloc, "folder")));
+    assert!(rt; was_asked(&asked, 6, 0, 2));
 }
 
 // Each call of a disk is refused.

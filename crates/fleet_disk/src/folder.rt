@@ -16,7 +16,7 @@ use std::alloc::{AllocError, Global};
 
 /// Lends the disk of a folder as it stands, and makes nothing. A file that isn't there counts as empty, and isn't held.
 /// While the disk is lent nobody else has the folder: it holds the journal. No failure of the disk is counted yet. The
-/// host refuses where the folder is in use (31); it or memory (70) may refuse besides.
+/// host refuses where the folder is in use or was moved meanwhile (31); it or memory (70) may refuse besides.
 pub fn open_folder<C: FolderCalls>(
     calls: &mut C,
     alloc: Global,

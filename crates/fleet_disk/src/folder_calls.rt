@@ -103,7 +103,7 @@ pub trait FolderCalls {
         ensures cause { IfErr result (IsCounted (failures self.old) (failures self.new)) };
 
     /// Lends the disk of a folder over those of its files that are there, which it takes. One that is lent isn't lent
-    /// again.
+    /// again. A host may refuse a folder that was moved since its journal was opened.
     fn lend(
         &mut self,
         alloc: Global,

@@ -16,7 +16,7 @@ use std::{fs, io};
 /// The host's own folders.
 ///
 /// That a host keeps the rules is a premise that no contract shows: here each call is the host's, and nothing else is
-/// done. A call of it that fails is counted.
+/// done, but that a folder is lent only where it wasn't moved since it was opened. A call that fails is counted.
 #[derive(Drop)]
 pub struct StdFolders<'a, R> {
     rt: &'a R,
@@ -57,6 +57,26 @@ impl<'a, R: HeldFiles> StdFolders<'a, R> {
         match answer {
             Ok(value) => Ok(value),
             Err(error) => Err(self.failed(error)),
+        }
+    }
+
+    // Refuses a folder whose journal isn't the one that is held (31): it was moved while its files were opened, so they
+    // may be those of two folders. Another opening of a held file can't be held.
+    fn see_unmoved(&mut self, alloc: Global, folder: &str) -> Result<(), FolderFault>
+        ensures cause { IfErr result (IsCounted self.old.failures self.new.failures) }
+        ensures later { self.old.failures ≤ self.new.failures }
+    {
+        let path = format!(in alloc; "{folder}/journal")?;
+        let found = self.rt.open_at(path.as_str(), false);
+        let journal = self.answered(found)?;
+        match self.rt.hold(&journal) {
+            Ok(()) => Err(self.failed(io::Error::from(ErrorKind::Other))),
+            Err(error) => {
+                if error.kind() == ErrorKind::WouldBlock {
+                    return Ok(());
+                }
+                Err(self.failed(error))
+            }
         }
     }
 }
@@ -135,9 +155,12 @@ impl<'a, R: HeldFiles> FolderCalls for StdFolders<'a, R> {
     fn lend(
         &mut self,
         alloc: Global,
-        _folder: &str,
+        folder: &str,
         opened: &mut FolderFiles<R::File>,
     ) -> Result<HostDisk<StdFiles<R::File>>, FolderFault> {
+        if opened.journal.is_some() {
+            self.see_unmoved(alloc, folder)?;
+        }
         let files = FolderFiles {
             journal: opened.journal.take(),
             gate: opened.gate.take(),
