@@ -85,7 +85,7 @@ refusal_number refusal.NoSuchRevision = 160006
 refusal_number refusal.NotSupported = 200007
 
 abbrev pub refusal_text : Refusal → List ℕ
-refusal_text refusal.UnknownCommand = codes "unknown command"
+refusal_text refusal.UnknownCommand = codes "this server only answers readers"
 refusal_text refusal.NoSuchPath = codes "path not found"
 refusal_text refusal.NoSuchRevision = codes "no such revision"
 refusal_text refusal.NotSupported = codes "not supported"

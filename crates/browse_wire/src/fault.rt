@@ -4,6 +4,7 @@ ghost use Rattle.std.specs.Prelude.{◌≡◌};
 ghost use Rattle.browse_wire.specs.Faults.{of_wire};
 ghost use Rattle.browse_wire.specs.declared.fault.BrowseFault.TheVariants.{OutOfMemory};
 
+use node_base::texts;
 use ra_wire::fault::WireFault;
 use std::alloc::{AllocError, AllocFailed};
 use thiserror::Error;
@@ -12,19 +13,19 @@ use thiserror::Error;
 #[derive(Clone, Copy, Debug, PartialEq, Eq, Drop, Error)]
 pub enum BrowseFault {
     /// A replay against another revision than 0, or without texts.
-    #[error("replay form not supported")]
+    #[error("{}", texts::REPLAY_FORM)]
     ReplayForm,
     /// A command of another name.
-    #[error("unknown command")]
+    #[error("{}", texts::UNKNOWN_COMMAND)]
     UnknownCommand,
     /// An item of another shape.
-    #[error("bad command shape")]
+    #[error("{}", texts::BAD_SHAPE)]
     BadShape,
     /// A command with a depth that leaves a path out.
     #[error("depth 'exclude' not supported")]
     ExcludedDepth,
     /// A growth was refused.
-    #[error("out of memory")]
+    #[error("{}", texts::OUT_OF_MEMORY)]
     OutOfMemory,
 }
 

@@ -21,7 +21,7 @@ pub mod depth;
 pub mod fault;
 mod fields;
 pub mod law;
-mod pieces;
+pub mod pieces;
 pub mod report;
 pub mod told;
 pub mod url;

@@ -1,99 +1,15 @@
-//! Pieces of what is written: names with brackets, strings that may be missing, paths.
+//! Pieces of what is written: paths behind a slash.
 //!
 //! Each `Err` is the writer's own; then some of the bytes may have been written.
 
-ghost use Rattle.std.specs.Prelude.{◌≡◌, ◌∷◌, [], OnOk};
-ghost use Rattle.std.specs.Option.{option_map};
+ghost use Rattle.std.specs.Prelude.{OnOk};
 ghost use Rattle.std.specs.Io.KnownBytes.{Appends};
-ghost use Rattle.ra_item.specs.Items.{spell, Word, Text};
-ghost use Rattle.node_base.specs.PathText.{path_text};
-ghost use Rattle.ra_wire.specs.Commands.{truth_word};
-ghost use Rattle.ra_wire.specs.Replies.{before, behind, list, string, node_kind_word};
+ghost use Rattle.ra_item.specs.Items.{spell, Text};
 ghost use Rattle.browse_wire.specs.Told.{absolute};
 
-use node_base::{NodeKind, NodePath};
-use ra_item::writer::{write_close, write_open, write_text, write_word};
+use node_base::NodePath;
 use std::io;
 use std::io::Write;
-
-/// What stands in front of an answer's content.
-pub fn write_name<W: Write>(out: &mut W, name: &[u8]) -> io::Result<()>
-    ensures { OnOk result (Appends (W.contents out.old) (W.contents out.new) (before name.now)) }
-{
-    write_open(out)?;
-    write_word(out, name)?;
-    write_open(out)
-}
-
-/// What stands behind it.
-pub fn write_end<W: Write>(out: &mut W) -> io::Result<()>
-    ensures { OnOk result (Appends (W.contents out.old) (W.contents out.new) behind) }
-{
-    write_close(out)?;
-    write_close(out)
-}
-
-/// Brackets without anything.
-pub fn write_none<W: Write>(out: &mut W) -> io::Result<()>
-    ensures { OnOk result (Appends (W.contents out.old) (W.contents out.new) (spell (list []))) }
-{
-    write_open(out)?;
-    write_close(out)
-}
-
-/// Brackets that are empty or hold a string.
-pub fn write_text_or_none<W: Write>(out: &mut W, value: &Option<Vec<u8>>) -> io::Result<()>
-    ensures { OnOk result (Appends (W.contents out.old) (W.contents out.new)
-        (spell (string (option_map (λ v. v.items) value.now)))) }
-{
-    match value {
-        None => write_none(out),
-        Some(value) => {
-            write_open(out)?;
-            write_text(out, value.as_slice())?;
-            write_close(out)
-        }
-    }
-}
-
-/// A word that is true or false.
-pub fn write_truth<W: Write>(out: &mut W, b: bool) -> io::Result<()>
-    ensures { OnOk result (Appends (W.contents out.old) (W.contents out.new) (spell (Word (truth_word b)))) }
-{
-    if b {
-        write_word(out, b"true")
-    } else {
-        write_word(out, b"false")
-    }
-}
-
-/// A kind of a node as a word.
-pub fn write_kind_word<W: Write>(out: &mut W, kind: NodeKind) -> io::Result<()>
-    ensures { OnOk result (Appends (W.contents out.old) (W.contents out.new) (spell (Word (node_kind_word kind)))) }
-{
-    match kind {
-        NodeKind::File => write_word(out, b"file"),
-        NodeKind::Dir => write_word(out, b"dir"),
-    }
-}
-
-/// A kind of a node as a string.
-pub fn write_kind_text<W: Write>(out: &mut W, kind: NodeKind) -> io::Result<()>
-    ensures { OnOk result (Appends (W.contents out.old) (W.contents out.new) (spell (Text (node_kind_word kind)))) }
-{
-    match kind {
-        NodeKind::File => write_text(out, b"file"),
-        NodeKind::Dir => write_text(out, b"dir"),
-    }
-}
-
-/// A path.
-pub fn write_path<W: Write>(out: &mut W, path: &NodePath) -> io::Result<()>
-    ensures { OnOk result (Appends (W.contents out.old) (W.contents out.new) (spell (Text (path_text path.now)))) }
-{
-    let len = path.text_len();
-    write!(out, "{len}:{path} ")
-}
 
 /// A path behind a slash.
 pub fn write_absolute<W: Write>(out: &mut W, path: &NodePath) -> io::Result<()>

@@ -14,12 +14,13 @@ ghost use Rattle.browse_wire.specs.Told.{info_item, info_or_none, stat_answer, a
 ghost use Rattle.browse_wire.specs.Told.{log_item, end_item, location_item, segment_item, no_locks};
 ghost use Rattle.browse_wire.specs.Told.{refusal_number, refusal_text};
 
-use crate::pieces::{
-    write_absolute, write_end, write_kind_text, write_kind_word, write_name, write_none,
-    write_path, write_text_or_none, write_truth,
-};
+use crate::pieces::write_absolute;
 use node_base::{NodeKind, NodePath, Props};
 use ra_item::writer::{write_close, write_number, write_open, write_text, write_word};
+use ra_wire::pieces::{
+    write_end, write_kind_text, write_kind_word, write_name, write_none, write_path,
+    write_text_or_none, write_truth,
+};
 use ra_wire::reply_writer::write_wanted;
 use std::io;
 use std::io::Write;
@@ -102,7 +103,7 @@ impl Refusal {
         ensures { result.now ≡ refusal_text self }
     {
         match self {
-            Refusal::UnknownCommand => b"unknown command",
+            Refusal::UnknownCommand => b"this server only answers readers",
             Refusal::NoSuchPath => b"path not found",
             Refusal::NoSuchRevision => b"no such revision",
             Refusal::NotSupported => b"not supported",

@@ -5,7 +5,7 @@ ghost use Rattle.node_base.specs.PathText.{Answers};
 ghost use Rattle.browse_wire.specs.Urls.{after, before_slash, from_slash, untrailed, path_behind, url_read, UrlIs, IsJudged, MovedIs};
 ghost use Rattle.browse_wire.specs.declared.url.UrlFault.TheVariants.{OutOfMemory};
 
-use node_base::{NodePath, PathFault};
+use node_base::{NodePath, PathFault, texts};
 use percent_encoding::percent_decode;
 use std::alloc::{AllocError, AllocFailed, Global};
 use thiserror::Error;
@@ -23,13 +23,13 @@ pub enum UrlFault {
     #[error("path past a limit")]
     TooLong,
     /// What stands behind the host is no path.
-    #[error("bad path")]
+    #[error("{}", texts::BAD_PATH)]
     BadPath,
     /// Its root isn't the session's.
     #[error("URL of another root")]
     OtherRoot,
     /// A growth was refused.
-    #[error("out of memory")]
+    #[error("{}", texts::OUT_OF_MEMORY)]
     OutOfMemory,
 }
 

@@ -4,10 +4,11 @@ use Rattle.std.specs.List.{join_with_byte, list_any, take_while, starts_with}
 use Rattle.std.specs.Str.{trim}
 use Rattle.std.specs.Str.Lines.{lines}
 use Rattle.command_words.specs.Terminal.{shown}
+use Rattle.command_words.specs.Words.{svnfleet_app}
 
 -- the words that name a command
 abbrev pub commands : List (List ℕ)
-commands = codes "list" ∷ codes "canon" ∷ codes "create" ∷ codes "load" ∷ codes "dump" ∷ codes "head" ∷ codes "mkdir" ∷ codes "upgrade" ∷ codes "initialize" ∷ codes "synchronize" ∷ codes "copy-revprops" ∷ codes "info" ∷ codes "serve" ∷ codes "fleet" ∷ []
+commands = map (λ command. command.name) svnfleet_app.subs
 
 -- the words whose help tells more: of the command that the first word behind the program's name is, or else of the program
 abbrev pub help_of : List (List ℕ) → List ℕ

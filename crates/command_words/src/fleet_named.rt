@@ -108,8 +108,8 @@ fn first_twice<'a>(names: &[&'a str]) -> Option<&'a str>
     first_twice(rest)
 }
 
-/// Whether a name is one of these.
-pub(crate) fn stands_in(names: &[&str], name: &str) -> bool
+// Whether a name is one of these.
+fn stands_in(names: &[&str], name: &str) -> bool
     ensures { result ≡ list_any (bytes_eq name.now) (map (λ v. v.now) names.now) }
 {
     match names.split_first() {

@@ -3,7 +3,8 @@ ghost use Rattle.std.specs.Prelude.{◌≡◌, [], get_or, bytes_eq, map, IfOk, 
 ghost use Rattle.std.specs.List.{list_any};
 ghost use Rattle.command_words.specs.Lines.{commands, help_of};
 
-use crate::fleet_named::stands_in;
+use crate::table::{ARCHIVE, MIRRORS};
+use crate::word::Subcommand;
 use std::alloc::{AllocError, Global};
 
 /// The words whose help tells more: those of a command where the first word, behind the program's name, names one, else
@@ -28,26 +29,18 @@ fn first_word(words: &[String]) -> &str
     }
 }
 
-// The names of the commands.
-const COMMANDS: [&str; 14] = [
-    "list",
-    "canon",
-    "create",
-    "load",
-    "dump",
-    "head",
-    "mkdir",
-    "upgrade",
-    "initialize",
-    "synchronize",
-    "copy-revprops",
-    "info",
-    "serve",
-    "fleet",
-];
-
 fn is_command(word: &str) -> bool
     ensures { result ≡ list_any (bytes_eq word.now) commands }
 {
-    stands_in(&COMMANDS, word)
+    is_named(ARCHIVE, word) || is_named(MIRRORS, word)
+}
+
+// Whether one of these commands is called so.
+fn is_named(commands: &[Subcommand<'_>], word: &str) -> bool
+    ensures { result ≡ list_any (λ command. bytes_eq word.now command.name.now) commands.now }
+{
+    match commands.split_first() {
+        Some((first, rest)) => word == first.name || is_named(rest, word),
+        None => false,
+    }
 }

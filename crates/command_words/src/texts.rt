@@ -12,7 +12,8 @@ and 64 names, a name 255 bytes, a text 1 MiB, a property value 64 KiB.";
 
 /// Of `list` and `canon`: which dumps are read.
 pub const DUMPS: &str = "\
-Reads dumps of formats 2 and 3: what `svnadmin dump` writes, with --incremental or without.
+Reads dumps of formats 2 and 3: what `svnadmin dump` writes, with --incremental or without. The first revision
+of a dump is 0 or 1, and each other one the next (16).
 With --deltas texts that the dump gives as deltas are taken, as `svnadmin dump --deltas` and `svnrdump dump` write them.
 Without it the first such text is refused (9).";
 
@@ -26,7 +27,7 @@ pub const LOAD: &str = "\
 Reads dumps of formats 2 and 3: what `svnadmin dump` writes, with --incremental or without.
 With --deltas texts that the dump gives as deltas are taken, as `svnadmin dump --deltas` and `svnrdump dump` write them.
 Without it the first such text is refused (9). So a repository on another machine is loaded by
-`svnrdump dump https://host/repository | svnfleet load --deltas archive`.
+`svnrdump dump https://host/repository >dump && svnfleet load --deltas archive <dump`.
 Prints `Loaded revision N.` for each revision that is committed, nothing for revision 0, whose properties are
 taken while there is no other. What was committed before a refusal stays.
 The status is 0; 1 with a line where the dump is refused or the device fails; 2 where the words are wrong.";

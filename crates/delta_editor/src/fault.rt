@@ -2,7 +2,7 @@
 ghost use Rattle.std.specs.Prelude.{◌≡◌};
 ghost use Rattle.delta_editor.specs.Faults.{number_of};
 
-use node_base::TreeFault;
+use node_base::{TreeFault, texts};
 use std::alloc::{AllocError, AllocFailed};
 use thiserror::Error;
 
@@ -11,37 +11,37 @@ use thiserror::Error;
 pub enum EditorFault {
     /// A limit is passed: more than 4,096 changes, a path of a copy, a property's value, a node's properties, or a text
     /// (8).
-    #[error("limit exceeded")]
+    #[error("{}", texts::TOO_LONG)]
     TooLong,
     /// The root is added or deleted (10).
-    #[error("bad path")]
+    #[error("{}", texts::BAD_PATH)]
     BadPath,
     /// Nothing is where a call wants something, or above a path (11).
-    #[error("no such path")]
+    #[error("{}", texts::NO_SUCH_PATH)]
     NoSuchPath,
     /// Something is where an add wants nothing (12).
-    #[error("path already exists")]
+    #[error("{}", texts::PATH_THERE)]
     PathThere,
     /// A file is above a path (13).
-    #[error("not a directory")]
+    #[error("{}", texts::NOT_DIR)]
     NotDir,
     /// The source isn't in an earlier revision (14).
-    #[error("no such copy source")]
+    #[error("{}", texts::NO_SOURCE)]
     NoSource,
     /// A path is opened or added twice, or deleted after it or something below it was touched (15).
-    #[error("changes of one path do not combine")]
+    #[error("{}", texts::OUT_OF_ORDER)]
     OutOfOrder,
     /// The target isn't the revision that comes next (16).
-    #[error("revision out of sequence")]
+    #[error("{}", texts::WRONG_NUMBER)]
     WrongNumber,
     /// A directory is opened as a file, or a file as a directory, or a source is of the other kind (17).
-    #[error("node kind mismatch")]
+    #[error("{}", texts::KIND_MISMATCH)]
     KindMismatch,
     /// What the calls are written to failed (49).
-    #[error("stream failed")]
+    #[error("{}", texts::PEER_FAILED)]
     PeerFailed,
     /// A growth was refused (70).
-    #[error("out of memory")]
+    #[error("{}", texts::OUT_OF_MEMORY)]
     OutOfMemory,
 }
 

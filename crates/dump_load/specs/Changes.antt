@@ -10,6 +10,7 @@ use Rattle.node_base.specs.declared.node.Action.{Action}
 use Rattle.node_base.specs.declared.node.Action.TheVariants.{Modify, Add, Delete, Replace}
 use Rattle.node_base.specs.declared.node.NodeKind.{NodeKind}
 use Rattle.node_base.specs.declared.node.NodeKind.TheVariants.{File, Dir}
+use Rattle.node_base.specs.declared.limits.TheConstants.{CHANGES}
 use Rattle.dump_load.specs.declared.change.Change.{Change}
 
 -- an add, a delete or a replace, which settles what is below its path
@@ -107,7 +108,7 @@ IsNormal (c ∷ s) = IsWhole c × AllByRecursion (Precedes c) s × IsNormal s
 
 -- the changes of a set: normal, and 4,096 at most
 abbrev pub IsSet : List Change → Type 0
-IsSet s = IsNormal s × (length s ≤ 4096)
+IsSet s = IsNormal s × (length s ≤ CHANGES)
 
 -- a change with this text and these properties, where they are given
 abbrev pub regiven : Option (List ℕ) → Option PropMap → Change → Change

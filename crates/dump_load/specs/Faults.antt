@@ -16,6 +16,7 @@ use Rattle.node_base.specs.declared.refusal.Refusal.{Refusal}
 use Rattle.node_base.specs.declared.refusal.Refusal.TheVariants as table
 use Rattle.node_base.specs.declared.fault.TreeFault.{TreeFault}
 use Rattle.node_base.specs.declared.fault.TreeFault.TheVariants.{TooLong, BadPath, NoSuchPath, PathThere, NotDir, NoSource, KindMismatch}
+use Rattle.node_base.specs.declared.limits.TheConstants.{CHANGES}
 use Rattle.dump_load.specs.declared.change.Change.{Change}
 use Rattle.dump_load.specs.declared.fault.ChangeFault.{ChangeFault}
 use Rattle.dump_load.specs.declared.fault.ChangeFault.TheVariants as refusal
@@ -109,9 +110,9 @@ IsRefusal e first = first ≡ Some e
 
 -- why some changes are no set: they are too many; else they aren't in order; else one of them isn't whole
 abbrev pub IsNoSet : List Change → ChangeFault → Type 0
-IsNoSet s refusal.TooLong = 4096 < length s
-IsNoSet s refusal.OutOfOrder = (length s ≤ 4096) × (IsInOrder s → ⊥)
-IsNoSet s refusal.BadHeader = (length s ≤ 4096) × IsInOrder s × (IsNormal s → ⊥)
+IsNoSet s refusal.TooLong = CHANGES < length s
+IsNoSet s refusal.OutOfOrder = (length s ≤ CHANGES) × (IsInOrder s → ⊥)
+IsNoSet s refusal.BadHeader = (length s ≤ CHANGES) × IsInOrder s × (IsNormal s → ⊥)
 IsNoSet s e = ⊥
 
 -- the refusal of the table that it is

@@ -12,6 +12,7 @@ use Rattle.node_base.specs.declared.fault.TreeFault.{TreeFault}
 use Rattle.node_base.specs.declared.node.Action.TheVariants.{Replace}
 use Rattle.node_base.specs.declared.node.NodeKind.{NodeKind}
 use Rattle.node_base.specs.declared.node.NodeKind.TheVariants.{File, Dir}
+use Rattle.node_base.specs.declared.limits.TheConstants.{CHANGES}
 use Rattle.dump_text.specs.declared.record.NodeRecord.{NodeRecord}
 use Rattle.dump_text.specs.declared.record.PropPart.{PropPart}
 use Rattle.dump_text.specs.declared.record.PropPart.TheVariants.{Whole, Delta}
@@ -87,7 +88,7 @@ leaves_unsaid cs = list_any (λ c. option_map_or is_unsaid (stated cs c.path) fa
 
 -- why changes that are stated so make no set
 abbrev pub set_fault : List Change → Option ChangeFault
-set_fault cs = first_of (fault_if (nat_lt 4096 (paths_named cs)) refusal.TooLong ∷ fault_if (is_out_of_order cs) refusal.OutOfOrder ∷ fault_if (leaves_unsaid cs) refusal.BadHeader ∷ [])
+set_fault cs = first_of (fault_if (nat_lt CHANGES (paths_named cs)) refusal.TooLong ∷ fault_if (is_out_of_order cs) refusal.OutOfOrder ∷ fault_if (leaves_unsaid cs) refusal.BadHeader ∷ [])
 
 -- the changes before a path
 abbrev pub earlier : List Change → Path → List Change

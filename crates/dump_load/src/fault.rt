@@ -2,7 +2,7 @@
 ghost use Rattle.std.specs.Prelude.{◌≡◌};
 ghost use Rattle.dump_load.specs.Faults.{change_refusal, number_of};
 
-use node_base::{Refusal, TreeFault};
+use node_base::{Refusal, TreeFault, texts};
 use std::alloc::{AllocError, AllocFailed};
 use thiserror::Error;
 
@@ -11,37 +11,37 @@ use thiserror::Error;
 pub enum ChangeFault {
     /// An add or a replace that copies nothing doesn't say what it adds, or a change is one that dump text can't
     /// say (2).
-    #[error("bad header")]
+    #[error("{}", texts::BAD_HEADER)]
     BadHeader,
     /// More than 4,096 paths are changed, or a path of a copy is past the limits (8).
-    #[error("limit exceeded")]
+    #[error("{}", texts::TOO_LONG)]
     TooLong,
     /// The root is added, deleted or replaced (10).
-    #[error("bad path")]
+    #[error("{}", texts::BAD_PATH)]
     BadPath,
     /// Nothing is where a change, a delete or a replace wants something, or above a path (11).
-    #[error("no such path")]
+    #[error("{}", texts::NO_SUCH_PATH)]
     NoSuchPath,
     /// Something is where an add wants nothing (12).
-    #[error("path already exists")]
+    #[error("{}", texts::PATH_THERE)]
     PathThere,
     /// A file is above a path (13).
-    #[error("not a directory")]
+    #[error("{}", texts::NOT_DIR)]
     NotDir,
     /// The source isn't in an earlier revision (14).
-    #[error("no such copy source")]
+    #[error("{}", texts::NO_SOURCE)]
     NoSource,
     /// A path's changes don't combine, or one is under a path that is deleted (15).
-    #[error("changes of one path do not combine")]
+    #[error("{}", texts::OUT_OF_ORDER)]
     OutOfOrder,
     /// A revision isn't the one that comes next (16).
-    #[error("revision out of sequence")]
+    #[error("{}", texts::WRONG_NUMBER)]
     WrongNumber,
     /// The kind that is given isn't the node's or the source's, or a directory is given a text (17).
-    #[error("node kind mismatch")]
+    #[error("{}", texts::KIND_MISMATCH)]
     KindMismatch,
     /// A growth was refused (70).
-    #[error("out of memory")]
+    #[error("{}", texts::OUT_OF_MEMORY)]
     OutOfMemory,
 }
 

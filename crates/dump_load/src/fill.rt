@@ -8,6 +8,7 @@ ghost use Rattle.dump_load.specs.declared.fault.ChangeFault.TheVariants.{BadHead
 ghost use Rattle.dump_load.specs.Changes.{IsDescribed, IsInOrder};
 ghost use Rattle.dump_load.specs.Effect.{effect, stepped};
 ghost use Rattle.node_base.specs.Path.{Path};
+ghost use Rattle.node_base.specs.declared.limits.TheConstants.{REVISION};
 ghost use Rattle.dump_load.specs.Faults.{IsRefusal, fault, fault_if, fault_of, judged};
 ghost use Rattle.dump_load.specs.Deltas.{delta_fault, AreSorted};
 ghost use Rattle.dump_load.specs.Records.{is_unsaid, with_blanks, with_kind, filled_after, Filling};
@@ -101,7 +102,7 @@ fn advance(
     tree: &mut Tree,
     change: &Change,
 ) -> Result<Option<TreeFault>, AllocError>
-    requires few { length trees.now ≤ 65535 }
+    requires few { length trees.now ≤ REVISION }
     requires whole { IsDescribed change.now }
     ensures fault { IfOk result (λ f. f ≡ fault_of trees.now (map.get tree.old) change.now) }
     ensures left { OnOk result ((q : Path)
@@ -133,7 +134,7 @@ fn fill_one(
     so_far: &mut Filled,
     change: Change,
 ) -> Result<(), ChangeFault>
-    requires few { length trees.now ≤ 65535 }
+    requires few { length trees.now ≤ REVISION }
     requires sorted { AreSorted deltas.now }
     requires said { is_unsaid change ≡ false }
     ensures filled { OnOk result ((ys rest : List ChangeOf)
@@ -179,7 +180,7 @@ pub fn fill(
     deltas: &[(NodePath, PropDelta)],
     changes: Vec<Change>,
 ) -> Result<Filled, ChangeFault>
-    requires few { length trees.now ≤ 65535 }
+    requires few { length trees.now ≤ REVISION }
     requires sorted { AreSorted deltas.now }
     requires order { IsInOrder changes.items }
     ensures filled { IfOk result (λ f. f.changes.items ≡ filled_after trees.now deltas.now [] changes.items) }

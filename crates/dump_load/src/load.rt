@@ -3,6 +3,7 @@ ghost use Rattle.std.specs.Prelude.{◌≡◌, ◌≤◌, length, [], None, Some
 ghost use Rattle.std.specs.Option.{option_map};
 ghost use Rattle.std.specs.FinMap as map;
 ghost use Rattle.node_base.specs.Path.{Path};
+ghost use Rattle.node_base.specs.declared.limits.TheConstants.{REVISION};
 ghost use Rattle.dump_load.specs.Changes.{IsNormal};
 ghost use Rattle.dump_load.specs.Effect.{effect};
 ghost use Rattle.dump_load.specs.Trees.{Makes};
@@ -31,7 +32,7 @@ pub struct Applied {
 /// The tree that a set of changes makes of the trees before it, or the set's first fault in path order. The result
 /// is a share of the newest tree, changed along the set's paths.
 pub fn apply(alloc: Global, trees: &[Tree], set: &ChangeSet) -> Result<Tree, ChangeFault>
-    requires { length trees.now ≤ 65535 }
+    requires { length trees.now ≤ REVISION }
     ensures effect { IfOk result (λ t. (q : Path) → map.get t q ≡ effect trees.now set.now q) }
     ensures makes { IfOk result (λ t. Makes trees.now set.now t) }
     ensures no_fault { OnOk result (fault trees.now set.now ≡ None) }
@@ -57,7 +58,7 @@ pub fn load_revision(
     number: RevNo,
     records: Vec<NodeRecord>,
 ) -> Result<Applied, ChangeFault>
-    requires { length trees.now ≤ 65535 }
+    requires { length trees.now ≤ REVISION }
     ensures number { OnOk result (number ≡ length trees.now) }
     ensures set { IfOk result (λ a. IsNormalSetOf trees.now records.items a.set) }
     ensures tree { IfOk result (λ a. (q : Path) → map.get a.tree q ≡ effect trees.now a.set q) }

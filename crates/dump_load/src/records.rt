@@ -4,6 +4,7 @@ ghost use Rattle.std.specs.Prelude.{map, None, true, false, IfOk, IfErr, OnOk};
 ghost use Rattle.std.specs.FinMap as finite;
 ghost use Rattle.dump_load.specs.declared.change.Change.{Change as ChangeOf};
 ghost use Rattle.node_base.specs.Path.{Path, same_path, is_front};
+ghost use Rattle.node_base.specs.declared.limits.TheConstants.{REVISION};
 ghost use Rattle.dump_load.specs.Changes.{NoneFalls, is_delete, is_add};
 ghost use Rattle.dump_load.specs.Faults.{IsRefusal, fault, fault_if};
 ghost use Rattle.dump_load.specs.Effect.{effect};
@@ -128,7 +129,7 @@ pub fn gather(
     trees: &[Tree],
     records: Vec<NodeRecord>,
 ) -> Result<Gathered, ChangeFault>
-    requires { length trees.now ≤ 65535 }
+    requires { length trees.now ≤ REVISION }
     ensures set { IfOk result (λ g. IsNormalSetOf trees.now records.items g.set) }
     ensures fault { IfOk result (λ g. g.fault ≡ fault trees.now g.set) }
     ensures tree { IfOk result (λ g. g.fault ≡ None → (q : Path)
@@ -172,7 +173,7 @@ impl ChangeSet {
         trees: &[Tree],
         records: Vec<NodeRecord>,
     ) -> Result<ChangeSet, ChangeFault>
-        requires { length trees.now ≤ 65535 }
+        requires { length trees.now ≤ REVISION }
         ensures set { IfOk result (λ s. IsNormalSetOf trees.now records.items s) }
         ensures fits { OnOk result (set_fault (map change_of records.items) ≡ None) }
         ensures refused { IfErr result (λ e. IsSetRefusal trees.now records.items e) }

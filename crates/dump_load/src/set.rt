@@ -85,7 +85,7 @@ impl ChangeSet {
     pub fn into_changes(self) -> Vec<Change>
         ensures value { result.items ≡ self }
         ensures normal { IsNormal self }
-        ensures few { length self ≤ 4096 }
+        ensures few { length self ≤ CHANGES }
         ensures bounded { IsBounded self }
     {
         self.changes
@@ -95,7 +95,7 @@ impl ChangeSet {
     pub fn changes(&self) -> &[Change]
         ensures value { result.now ≡ self.now }
         ensures normal { IsNormal self.now }
-        ensures few { length self.now ≤ 4096 }
+        ensures few { length self.now ≤ CHANGES }
         ensures bounded { IsBounded self.now }
     {
         self.changes.as_slice()

@@ -4,6 +4,7 @@ ghost use Rattle.std.specs.Prelude.{IfOk};
 ghost use Rattle.std.specs.FinMap as map;
 ghost use Rattle.node_base.specs.Path.{Path, same_path};
 ghost use Rattle.node_base.specs.Tree.{blank, base, marked, changed_at, with_number, IsDirAt};
+ghost use Rattle.node_base.specs.declared.limits.TheConstants.{REVISION};
 ghost use Rattle.dump_load.specs.Changes.{brings, settles, is_delete, IsDescribed};
 ghost use Rattle.dump_load.specs.Effect.{effect, stepped, with_parts};
 ghost use Rattle.dump_load.specs.Faults.{fault_of};
@@ -16,7 +17,7 @@ use std::alloc::{AllocError, Global};
 
 /// The number of the revision that comes after these.
 pub fn next_number(trees: &[Tree]) -> RevNo
-    requires { length trees.now ≤ 65535 }
+    requires { length trees.now ≤ REVISION }
     ensures { result ≡ length trees.now }
 {
     RevNo::new(trees.len() as u16)
@@ -69,7 +70,7 @@ fn arrive_copied(
     change: &Change,
     source: &Source,
 ) -> Result<(), AllocError>
-    requires few { length trees.now ≤ 65535 }
+    requires few { length trees.now ≤ REVISION }
     requires brings { brings change.now ≡ true }
     requires whole { IsDescribed change.now }
     requires faultless { fault_of trees.now (map.get tree.old) change.now ≡ None }
@@ -84,7 +85,7 @@ fn arrive_copied(
 
 // Adds or replaces.
 fn arrive(alloc: Global, trees: &[Tree], tree: &mut Tree, change: &Change) -> Result<(), AllocError>
-    requires few { length trees.now ≤ 65535 }
+    requires few { length trees.now ≤ REVISION }
     requires brings { brings change.now ≡ true }
     requires whole { IsDescribed change.now }
     requires faultless { fault_of trees.now (map.get tree.old) change.now ≡ None }
@@ -101,7 +102,7 @@ fn arrive(alloc: Global, trees: &[Tree], tree: &mut Tree, change: &Change) -> Re
 
 // Changes what is there.
 fn modify(alloc: Global, trees: &[Tree], tree: &mut Tree, change: &Change) -> Result<(), AllocError>
-    requires few { length trees.now ≤ 65535 }
+    requires few { length trees.now ≤ REVISION }
     requires stays { settles change.now.action ≡ false }
     requires faultless { fault_of trees.now (map.get tree.old) change.now ≡ None }
     ensures { OnOk result ((q : Path) → map.get tree.new q ≡ stepped trees.now (map.get tree.old) change.now q) }
@@ -111,7 +112,7 @@ fn modify(alloc: Global, trees: &[Tree], tree: &mut Tree, change: &Change) -> Re
 
 // Takes away what is there and below it.
 fn delete(alloc: Global, trees: &[Tree], tree: &mut Tree, change: &Change) -> Result<(), AllocError>
-    requires few { length trees.now ≤ 65535 }
+    requires few { length trees.now ≤ REVISION }
     requires deletes { is_delete change.now.action ≡ true }
     requires faultless { fault_of trees.now (map.get tree.old) change.now ≡ None }
     ensures { OnOk result ((q : Path) → map.get tree.new q ≡ stepped trees.now (map.get tree.old) change.now q) }
@@ -126,7 +127,7 @@ pub fn step(
     tree: &mut Tree,
     change: &Change,
 ) -> Result<(), AllocError>
-    requires few { length trees.now ≤ 65535 }
+    requires few { length trees.now ≤ REVISION }
     requires whole { IsDescribed change.now }
     requires faultless { fault_of trees.now (map.get tree.old) change.now ≡ None }
     ensures { OnOk result ((q : Path) → map.get tree.new q ≡ stepped trees.now (map.get tree.old) change.now q) }
@@ -140,7 +141,7 @@ pub fn step(
 
 /// The tree that the changes of the next revision begin with: that of the newest, its root numbered.
 pub fn begin(alloc: Global, trees: &[Tree]) -> Result<Tree, AllocError>
-    requires { length trees.now ≤ 65535 }
+    requires { length trees.now ≤ REVISION }
     ensures { IfOk result (λ t. (q : Path) → map.get t q ≡ effect trees.now [] q) }
 {
     let mut tree = newest(alloc, trees)?;

@@ -15,6 +15,7 @@ use Rattle.node_base.specs.Entries.{Entries, IsRising}
 use Rattle.node_base.specs.Props.{PropMap, IsProps, is_prop_name}
 use Rattle.node_base.specs.BlockGrammar.{block_end}
 use Rattle.node_base.specs.BlockCanon.{canon_block, canon_property}
+use Rattle.node_base.specs.declared.limits.TheConstants.{BLOCK_BYTES}
 use Rattle.node_base.proofs.EntryLemmas.{both_true, find_absent}
 use Rattle.node_base.proofs.BlockSpelled.{property_length}
 use Rattle.node_base.proofs.BlockLengths.{few_entries, few_digits}
@@ -46,7 +47,7 @@ small_entries (p ∷ ps) s each =
     omega (arith, length-append (canon_property p) (flat_map canon_property ps), small_property p here, small_entries ps b.1 (λ q v e. each q v (find_behind q v p ps b.0 e)))
 
 -- a block that is written is never past the limit
-pub small_block : (m : PropMap) → IsProps m → length (canon_block m) ≤ 33554432
+pub small_block : (m : PropMap) → IsProps m → length (canon_block m) ≤ BLOCK_BYTES
 small_block m p =
     let each : (q : Name) (v : List ℕ) → find name_cmp q (map.entries m) ≡ Some v → Small q v = λ q v e.
     (let f : (is_prop_name q ≡ true) × (length q ≤ 255) × (length v ≤ 65536) = subst (λ o. IfSome o (λ w. (is_prop_name q ≡ true) × (length q ≤ 255) × (length w ≤ 65536))) (get-entries m q ∙ e) (p.each q) in (f.1, f.2)) in

@@ -14,6 +14,7 @@ use Rattle.node_base.proofs.BlockSpelled.{both, eq_false, block_long}
 use Rattle.node_base.proofs.BlockConverse.{read_is_block}
 use Rattle.node_base.specs.declared.node.Action.{Action}
 use Rattle.node_base.specs.Path.{Path}
+use Rattle.node_base.specs.declared.limits.TheConstants.{TEXT_BYTES}
 use Rattle.dump_text.specs.Headers.{version_in}
 use Rattle.dump_text.specs.Heads.{line_says, no_head}
 use Rattle.dump_text.specs.Forms.{fits_form, lengths_agree, lengths_fit, is_delta, gives_delta, has_delta, may_be_delta, part_of, delta_of, whole_of, record_of, named_of, numbered_of, node_of, is_inside, is_node_head, has_source_form, is_deletion, is_first, is_identity_head, has_no_node, stage_after}
@@ -169,7 +170,7 @@ abbrev WholeCame : List DumpRecord → ReadState → Option PropPart → List �
 WholeCame rs r part text rest out f =
     ((sum_holds r.head.sum text ≡ false) × (out ≡ rs) × (f ≡ BadSum)) ⊎ ((sum_holds r.head.sum text ≡ true) × (reading (give rs r part (Some (AsWhole text))) rest ≡ Refuses out f))
 
-whole_from : (rs : List DumpRecord) (r : ReadState) (part : Option PropPart) (text rest : List ℕ) (out : List DumpRecord) (f : DumpFault) → nat_lt 1048576 (length text) ≡ false → reading (whole_text rs r part text) rest ≡ Refuses out f → WholeCame rs r part text rest out f
+whole_from : (rs : List DumpRecord) (r : ReadState) (part : Option PropPart) (text rest : List ℕ) (out : List DumpRecord) (f : DumpFault) → nat_lt TEXT_BYTES (length text) ≡ false → reading (whole_text rs r part text) rest ≡ Refuses out f → WholeCame rs r part text rest out f
 whole_from rs r part text rest out f small e =
     elim (sum_holds r.head.sum text) as (λ t. sum_holds r.head.sum text ≡ t → reading (if t then made rs r part text else Refuses rs BadSum) rest ≡ Refuses out f → WholeCame rs r part text rest out f) [
       | true ↦ λ t e. inr (t, ap (λ b. reading (if b then Refuses rs TooLong else give rs r part (Some (AsWhole text))) rest) (sym small) ∙ e)

@@ -5,6 +5,7 @@ use Rattle.std.proofs.lemmas.Bool.Decides.{nat_tests}
 use Rattle.std.proofs.lemmas.List.{take_all, take_at, length-take}
 use Rattle.std.specs.Bool.{if◌then◌else◌}
 use Rattle.node_base.specs.Blocks.{More, Done, Fault, run_block, begun, new_block}
+use Rattle.node_base.specs.declared.limits.TheConstants.{TEXT_BYTES}
 use Rattle.node_base.proofs.BlockSpelled.{both}
 use Rattle.node_base.proofs.BlockConverse.{read_is_block}
 use Rattle.std.specs.Option.{option_map}
@@ -192,7 +193,7 @@ whole_from : (rs : List DumpRecord) (r : ReadState) (props : Option PropPart) (t
 whole_from rs r props text rest out last e =
     elim (sum_holds r.head.sum text) as (λ t. sum_holds r.head.sum text ≡ t → Ends (reading (if t then made rs r props text else Refuses rs BadSum) rest) out last → (sum_holds r.head.sum text ≡ true) × Given rs r.version r.stage r.head props (Some (AsWhole text)) rest out last) [
       | true ↦ λ t e.
-          elim (nat_lt 1048576 (length text)) as (λ b. Ends (reading (if b then Refuses rs TooLong else give rs r props (Some (AsWhole text))) rest) out last → (sum_holds r.head.sum text ≡ true) × Given rs r.version r.stage r.head props (Some (AsWhole text)) rest out last) [
+          elim (nat_lt TEXT_BYTES (length text)) as (λ b. Ends (reading (if b then Refuses rs TooLong else give rs r props (Some (AsWhole text))) rest) out last → (sum_holds r.head.sum text ≡ true) × Given rs r.version r.stage r.head props (Some (AsWhole text)) rest out last) [
             | true ↦ λ e. never rs out TooLong last rest _ e
             | false ↦ λ e. (t, given_from rs r props (Some (AsWhole text)) rest out last e)
           ] e

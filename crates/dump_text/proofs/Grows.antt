@@ -2,6 +2,7 @@
 use Rattle.std.proofs.Common.{◌≡◌, ℕ, ◌==◌, ◌+◌, not, Bool, true, false, List, [], ◌∷◌, ◌++◌, length, nat_lt, Option, Some, None, Ok, Err, Result, refl, sym, ap, ◌∙◌, append_assoc, append-nil}
 use Rattle.std.specs.Bool.{if◌then◌else◌}
 use Rattle.node_base.specs.Blocks.{Step, block_step, begun, new_block, Next, Whole, Refused}
+use Rattle.node_base.specs.declared.limits.TheConstants.{TEXT_BYTES}
 use Rattle.dump_text.specs.Headers.{version_in}
 use Rattle.dump_text.specs.Heads.{line_says}
 use Rattle.dump_text.specs.Forms.{record_of, fits_form, lengths_agree, lengths_fit, is_delta, gives_delta, part_of, delta_of}
@@ -34,7 +35,7 @@ give_front rs r props text = given_front rs r (record_of r.head props text)
 text_front : (rs : List DumpRecord) (r : ReadState) (props : Option PropPart) (text : List ℕ) → IsFront rs (text_is rs r props text)
 text_front rs r props text =
     if_front rs (gives_delta r.head) _ _ (give_front rs r props (Some (AsDelta (delta_of r.head text))))
-    (if_front rs (sum_holds r.head.sum text) _ _ (if_front rs (nat_lt 1048576 (length text)) _ _ (here rs) (give_front rs r props (Some (AsWhole text)))) (here rs))
+    (if_front rs (sum_holds r.head.sum text) _ _ (if_front rs (nat_lt TEXT_BYTES (length text)) _ _ (here rs) (give_front rs r props (Some (AsWhole text)))) (here rs))
 
 after_block_front : (rs : List DumpRecord) (r : ReadState) (props : Option PropPart) → IsFront rs (after_block rs r props)
 after_block_front rs r props =

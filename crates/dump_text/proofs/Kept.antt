@@ -6,6 +6,7 @@ use Rattle.node_base.specs.Props.{PropMap}
 use Rattle.node_base.specs.Entries.{stored_bytes}
 use Rattle.node_base.specs.BlockKept.{kept_bytes}
 use Rattle.node_base.specs.Blocks.{Step, Next, Whole, Refused, block_step, begun, new_block}
+use Rattle.node_base.specs.declared.limits.TheConstants.{TEXT_BYTES}
 use Rattle.node_base.proofs.BlockKept.{begun_bytes, step_bytes, block_bytes}
 use Rattle.dump_text.specs.Headers.{version_in}
 use Rattle.dump_text.specs.Heads.{line_says}
@@ -41,7 +42,7 @@ given_kept rs r (Some rec) n = omega (arith, begun_kept r.head.deltas r.version 
 text_kept : (rs : List DumpRecord) (r : ReadState) (props : Option PropPart) (text : List ℕ) (n : ℕ) → kept_of (text_is rs r props text) ≤ n
 text_kept rs r props text n =
     if_kept n (gives_delta r.head) _ _ (given_kept rs r (record_of r.head props (Some (AsDelta (delta_of r.head text)))) n)
-    (if_kept n (sum_holds r.head.sum text) _ _ (if_kept n (nat_lt 1048576 (length text)) _ _ (omega arith) (given_kept rs r (record_of r.head props (Some (AsWhole text))) n)) (omega arith))
+    (if_kept n (sum_holds r.head.sum text) _ _ (if_kept n (nat_lt TEXT_BYTES (length text)) _ _ (omega arith) (given_kept rs r (record_of r.head props (Some (AsWhole text))) n)) (omega arith))
 
 -- what is kept behind a block that gave this
 abbrev behind : ReadState → Option PropPart → ℕ

@@ -4,6 +4,7 @@ use Rattle.std.proofs.lemmas.List.{take_at, drop_at, take_more}
 use Rattle.std.proofs.lemmas.Bool.Decides.{nat_tests}
 use Rattle.std.specs.Bool.{if◌then◌else◌}
 use Rattle.node_base.specs.Blocks.{begun, new_block, run_block}
+use Rattle.node_base.specs.declared.limits.TheConstants.{BLOCK_BYTES, TEXT_BYTES}
 use Rattle.node_base.proofs.BlockSpelled.{block_long, eq_false, both}
 use Rattle.node_base.proofs.BlockWritten.{block_is_read}
 use Rattle.dump_text.specs.Heads.{no_head}
@@ -22,6 +23,7 @@ use Rattle.dump_text.specs.declared.record.NodeRecord.{NodeRecord}
 use Rattle.dump_text.specs.declared.record.DumpRecord.TheVariants.{Identity, Revision, Node, DeltaNode}
 use Rattle.dump_text.specs.declared.state.Place.TheVariants as at
 use Rattle.dump_text.specs.declared.state.ReadState.{ReadState}
+use Rattle.dump_text.specs.declared.limits.TheConstants.{DELTA_BYTES}
 use Rattle.dump_text.proofs.HeadModes.{heads_mode}
 use Rattle.dump_text.proofs.StreamRuns.{line_ends, block_piece, text_whole, reader}
 
@@ -55,15 +57,15 @@ says_record h props text (DeltaNode node delta) (says, none, t) =
 pub is_given : (rs : List DumpRecord) (r : ReadState) (props : Option PropPart) (text : Option TextPart) (rec : DumpRecord) → Says r.head props text rec → give rs r props text ≡ follow r.head.deltas rs r.version r.stage rec
 is_given rs r props text rec s = ap (given rs r) (says_record r.head props text rec s)
 
-small : (n k : ℕ) → (nat_le k 33554432 && nat_le n 1048576) ≡ true → nat_lt 1048576 n ≡ false
-small n k e = let fit = (both (nat_le k 33554432) (nat_le n 1048576) e).1 in grind (arith, nat_tests, fit)
+small : (n k : ℕ) → (nat_le k BLOCK_BYTES && nat_le n TEXT_BYTES) ≡ true → nat_lt TEXT_BYTES n ≡ false
+small n k e = let fit = (both (nat_le k BLOCK_BYTES) (nat_le n TEXT_BYTES) e).1 in grind (arith, nat_tests, fit)
 
 -- the length of a whole text that is announced was judged
-pub within_limit : (h : Head) (text : List ℕ) → lengths_fit h ≡ true → gives_delta h ≡ false → h.text_len ≡ Some (length text) → nat_lt 1048576 (length text) ≡ false
+pub within_limit : (h : Head) (text : List ℕ) → lengths_fit h ≡ true → gives_delta h ≡ false → h.text_len ≡ Some (length text) → nat_lt TEXT_BYTES (length text) ≡ false
 within_limit h text fit whole len =
     small (length text) (length_of h.prop_len)
-    (ap (λ o. nat_le (length_of h.prop_len) 33554432 && nat_le (length_of o) 1048576) (sym len)
-    ∙ ap (λ b. nat_le (length_of h.prop_len) 33554432 && nat_le (length_of h.text_len) (if b then 2097152 else 1048576)) (sym whole)
+    (ap (λ o. nat_le (length_of h.prop_len) BLOCK_BYTES && nat_le (length_of o) TEXT_BYTES) (sym len)
+    ∙ ap (λ b. nat_le (length_of h.prop_len) BLOCK_BYTES && nat_le (length_of h.text_len) (if b then DELTA_BYTES else TEXT_BYTES)) (sym whole)
     ∙ fit)
 
 -- the bytes of a text that is announced, whatever follows

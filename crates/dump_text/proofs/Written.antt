@@ -17,6 +17,7 @@ use Rattle.node_base.specs.BlockCanon.{canon_block}
 use Rattle.node_base.specs.declared.node.Action.{Action}
 use Rattle.node_base.specs.declared.node.NodeKind.{NodeKind}
 use Rattle.node_base.specs.declared.node.Source.{Source}
+use Rattle.node_base.specs.declared.limits.TheConstants.{BLOCK_BYTES, TEXT_BYTES}
 use Rattle.node_base.proofs.BlockWritten.{written_is_read}
 use Rattle.node_base.proofs.BlockConverse.{read_is_block}
 use Rattle.dump_text.specs.Heads.{no_head, line_says, with_value}
@@ -118,11 +119,11 @@ module _ (p : Path) (kind : Option NodeKind) (action : Action) where
     block_part (Some (Delta d)) w h = cc
     block_part (Some (Whole m)) w h = block_lines p kind action rev from (length (canon_block m)) (omega (arith, small_block m h))
 
-    text_part : (prop : Option ℕ) (o : Option (List ℕ)) → IfSome o (λ t. length t ≤ 1048576) → Lines (node_head (Some p) kind (Some action) rev from prop None None None) (text_lines o) (node_head (Some p) kind (Some action) rev from prop (len_of_text o) (sum_of_text o) None)
+    text_part : (prop : Option ℕ) (o : Option (List ℕ)) → IfSome o (λ t. length t ≤ TEXT_BYTES) → Lines (node_head (Some p) kind (Some action) rev from prop None None None) (text_lines o) (node_head (Some p) kind (Some action) rev from prop (len_of_text o) (sum_of_text o) None)
     text_part prop None h = none _
     text_part prop (Some t) h = text_lines_are p kind action rev from prop t (omega arith)
 
-    content_part : (o : Option PropPart) (t : Option (List ℕ)) → is_whole_part o ≡ true → IfSome o (λ part. IsProps (map_of part)) → IfSome t (λ t. length t ≤ 1048576) → Lines (node_head (Some p) kind (Some action) rev from (len_of_part o) (len_of_text t) (sum_of_text t) None) (content_line o t) (node_head (Some p) kind (Some action) rev from (len_of_part o) (len_of_text t) (sum_of_text t) (len_of_content o t))
+    content_part : (o : Option PropPart) (t : Option (List ℕ)) → is_whole_part o ≡ true → IfSome o (λ part. IsProps (map_of part)) → IfSome t (λ t. length t ≤ TEXT_BYTES) → Lines (node_head (Some p) kind (Some action) rev from (len_of_part o) (len_of_text t) (sum_of_text t) None) (content_line o t) (node_head (Some p) kind (Some action) rev from (len_of_part o) (len_of_text t) (sum_of_text t) (len_of_content o t))
     content_part None None w h k = none _
     content_part (Some (Delta d)) t w h k = cc
     content_part None (Some t) w h k = content_lines p kind action rev from None (Some (length t)) (Some (md5 t)) (0 + length t) (omega arith)
@@ -172,11 +173,11 @@ agree_of r (Some (Whole m)) None w = eq_self (length (canon_block m) + 0)
 agree_of r (Some (Whole m)) (Some t) w = eq_self (length (canon_block m) + length t)
 agree_of r (Some (Delta d)) text w = cc
 
-fit_of : (r : NodeRecord) (props : Option PropPart) (text : Option (List ℕ)) → is_whole_part props ≡ true → IfSome props (λ part. IsProps (map_of part)) → IfSome text (λ t. length t ≤ 1048576) → lengths_fit (node_head (Some r.path) (told_kind r.action r.kind) (Some r.action) (rev_of r.source) (from_of r.source) (len_of_part props) (len_of_text text) (sum_of_text text) (len_of_content props text)) ≡ true
+fit_of : (r : NodeRecord) (props : Option PropPart) (text : Option (List ℕ)) → is_whole_part props ≡ true → IfSome props (λ part. IsProps (map_of part)) → IfSome text (λ t. length t ≤ TEXT_BYTES) → lengths_fit (node_head (Some r.path) (told_kind r.action r.kind) (Some r.action) (rev_of r.source) (from_of r.source) (len_of_part props) (len_of_text text) (sum_of_text text) (len_of_content props text)) ≡ true
 fit_of r None None w h k = refl
-fit_of r None (Some t) w h k = le_true (length t) 1048576 k
-fit_of r (Some (Whole m)) None w h k = rw (le_true (length (canon_block m)) 33554432 (small_block m h)) refl
-fit_of r (Some (Whole m)) (Some t) w h k = rw (le_true (length (canon_block m)) 33554432 (small_block m h), le_true (length t) 1048576 k) refl
+fit_of r None (Some t) w h k = le_true (length t) TEXT_BYTES k
+fit_of r (Some (Whole m)) None w h k = rw (le_true (length (canon_block m)) BLOCK_BYTES (small_block m h)) refl
+fit_of r (Some (Whole m)) (Some t) w h k = rw (le_true (length (canon_block m)) BLOCK_BYTES (small_block m h), le_true (length t) TEXT_BYTES k) refl
 fit_of r (Some (Delta d)) text w h k = cc
 
 has_block : (props : Option PropPart) → is_whole_part props ≡ true → IfSome props (λ part. IsProps (map_of part)) → HasBlock false (len_of_part props) props (block_of props)
@@ -260,7 +261,7 @@ entry_is v i n m h p =
       headers = entry_head n len h (omega (arith, small_block m p));
       form = refl;
       agree = eq_plus len;
-      fit = rw (le_true len 33554432 (small_block m p)) refl;
+      fit = rw (le_true len BLOCK_BYTES (small_block m p)) refl;
       content = record { block = canon_block m; whole = sym (append-nil (canon_block m)); properties = (refl, block_is m p); words = refl };
       says = (refl, refl, refl);
     }

@@ -6,6 +6,7 @@ use Rattle.node_base.specs.Props.{PropMap}
 use Rattle.node_base.specs.declared.node.Action.{Action}
 use Rattle.node_base.specs.declared.node.Action.TheVariants.{Add, Delete, Replace}
 use Rattle.node_base.specs.declared.node.Source.{Source}
+use Rattle.node_base.specs.declared.limits.TheConstants.{BLOCK_BYTES, TEXT_BYTES}
 use Rattle.dump_text.specs.declared.head.Head.{Head}
 use Rattle.dump_text.specs.declared.form.Stage.{Stage}
 use Rattle.dump_text.specs.declared.form.Stage.TheVariants.{First, Outside, Inside}
@@ -17,6 +18,7 @@ use Rattle.dump_text.specs.declared.record.DeltaText.{DeltaText}
 use Rattle.dump_text.specs.declared.record.NodeRecord.{NodeRecord}
 use Rattle.dump_text.specs.declared.record.DumpRecord.{DumpRecord}
 use Rattle.dump_text.specs.declared.record.DumpRecord.TheVariants.{Identity, Revision, Node, DeltaNode}
+use Rattle.dump_text.specs.declared.limits.TheConstants.{DELTA_BYTES}
 
 abbrev pub is_deletion : Option Action → Bool
 is_deletion (Some Delete) = true
@@ -84,11 +86,11 @@ lengths_agree h = elim h.content_len [ None ↦ true | Some n ↦ n == length_of
 
 -- 1 MiB of a text, 2 MiB of a delta that gives one
 abbrev pub text_limit : Head → ℕ
-text_limit h = if gives_delta h then 2097152 else 1048576
+text_limit h = if gives_delta h then DELTA_BYTES else TEXT_BYTES
 
 -- 32 MiB of properties, and the text within its limit
 abbrev pub lengths_fit : Head → Bool
-lengths_fit h = nat_le (length_of h.prop_len) 33554432 && nat_le (length_of h.text_len) (text_limit h)
+lengths_fit h = nat_le (length_of h.prop_len) BLOCK_BYTES && nat_le (length_of h.text_len) (text_limit h)
 
 abbrev pub source_of : Option Path → Option ℕ → Option Source
 source_of None n = None

@@ -2,6 +2,7 @@
 use Rattle.std.specs.Prelude.{◌≡◌, ◌⊎◌, ℕ, ◌<◌, ◌≤◌, Bool, true, false, List, [], ◌∷◌, ◌++◌, length, Option, Some, None, option_map, Ok, codes}
 use Rattle.std.specs.FinMap as map
 use Rattle.node_base.specs.BlockGrammar.{BlockEntry, IsBlock, MayStand, set_in, removed_in}
+use Rattle.node_base.specs.declared.limits.TheConstants.{LINE_BYTES}
 use Rattle.dump_text.specs.Heads.{line_says, no_head}
 use Rattle.dump_text.specs.Forms.{fits_form, lengths_agree, lengths_fit, source_of, is_delta, gives_delta, part_of, whole_of, stage_after}
 use Rattle.dump_text.specs.Streams.{NoLf, sum_holds}
@@ -23,7 +24,7 @@ lines_of (l ∷ ls) = l ++ 10 ∷ lines_of ls
 -- header lines, in any order, and what they come to
 abbrev pub HeadOf : Head → List (List ℕ) → Head → Type 0
 HeadOf h [] last = h ≡ last
-HeadOf h (l ∷ ls) last = NoLf l × (0 < length l) × (length l ≤ 4096) × (next : Head) × (line_says h l ≡ Ok next) × HeadOf next ls last
+HeadOf h (l ∷ ls) last = NoLf l × (0 < length l) × (length l ≤ LINE_BYTES) × (next : Head) × (line_says h l ≡ Ok next) × HeadOf next ls last
 
 -- the bytes of a text, or of the delta that gives it
 abbrev pub bytes_of : Option TextPart → List ℕ

@@ -1,6 +1,7 @@
 -- Laws of dumps. Where one says `deltas`, texts may or may not be given as deltas.
 use Rattle.std.specs.Prelude.{◌≡◌, ℕ, ◌≤◌, Bool, true, false, List, [], ◌∷◌, ◌++◌, Option, IfSome}
 use Rattle.node_base.specs.Props.{PropMap, IsProps}
+use Rattle.node_base.specs.declared.limits.TheConstants.{REVISION}
 use Rattle.dump_text.specs.declared.form.Stage.{Stage}
 use Rattle.dump_text.specs.declared.form.Stage.TheVariants.{First, Inside}
 use Rattle.dump_text.specs.declared.record.DumpRecord.TheVariants.{Revision}
@@ -63,7 +64,7 @@ OneReading = (deltas : Bool) (bytes : List ℕ) (rs others : List DumpRecord) �
 
 -- what is written of a revision's number and properties is read again as that record, whatever stands before it and follows it
 abbrev pub EntriesAreReadAgain : Type 0
-EntriesAreReadAgain = (rs : List DumpRecord) (version : ℕ) (stage : Stage) (n : ℕ) (props : PropMap) (more : List ℕ) → n ≤ 65535 → IsProps props → reading (Reads rs (begin false version at.Between stage)) (canon_entry n props ++ more) ≡ reading (Reads (rs ++ Revision n props ∷ []) (begin false version at.Between Inside)) more
+EntriesAreReadAgain = (rs : List DumpRecord) (version : ℕ) (stage : Stage) (n : ℕ) (props : PropMap) (more : List ℕ) → n ≤ REVISION → IsProps props → reading (Reads rs (begin false version at.Between stage)) (canon_entry n props ++ more) ≡ reading (Reads (rs ++ Revision n props ∷ []) (begin false version at.Between Inside)) more
 
 -- so is what is written of a whole revision; but of a deletion the kind isn't written
 abbrev pub RevisionsAreReadAgain : Type 0

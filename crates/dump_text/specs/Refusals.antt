@@ -3,6 +3,7 @@ use Rattle.std.specs.Prelude.{◌≡◌, ℕ, Bool, ◌<◌, ◌≤◌, true, fa
 use Rattle.node_base.specs.Blocks.{More, Fault, run_block, begun}
 use Rattle.node_base.specs.declared.block.BlockReader.{BlockReader}
 use Rattle.node_base.specs.declared.prop_fault.PropFault.{PropFault}
+use Rattle.node_base.specs.declared.limits.TheConstants.{LINE_BYTES}
 use Rattle.dump_text.specs.Headers.{version_in}
 use Rattle.dump_text.specs.Heads.{line_says, no_head}
 use Rattle.dump_text.specs.Forms.{fits_form, lengths_agree, lengths_fit, is_delta, gives_delta}
@@ -18,7 +19,7 @@ use Rattle.dump_text.specs.declared.record.DumpRecord.{DumpRecord}
 
 -- a line without its LF, and one byte more than a line may have
 abbrev pub IsLine : List ℕ → Type 0
-IsLine line = NoLf line × (length line ≤ 4096)
+IsLine line = NoLf line × (length line ≤ LINE_BYTES)
 
 abbrev pub IsLong : List ℕ → Type 0
 IsLong line = NoLf line × (length line ≡ 4097)

@@ -10,6 +10,7 @@ use Rattle.node_base.specs.declared.prop_fault.PropFault.{PropFault}
 use Rattle.node_base.specs.declared.prop_fault.PropFault.TheVariants as prop_fault
 use Rattle.node_base.specs.declared.text_fault.TextFault.{TextFault}
 use Rattle.node_base.specs.declared.text_fault.TextFault.TheVariants as text_fault
+use Rattle.node_base.specs.declared.limits.TheConstants.{LINE_BYTES, TEXT_BYTES}
 use Rattle.dump_text.specs.Headers.{same, version_in}
 use Rattle.dump_text.specs.Heads.{line_says, no_head}
 use Rattle.dump_text.specs.Forms.{fits_form, lengths_agree, lengths_fit, is_delta, gives_delta, part_of, delta_of, record_of, stage_after}
@@ -62,7 +63,7 @@ sum_holds (Some sum) text = same (md5 text) sum
 
 -- a whole text is within its limit, as one that was announced is
 abbrev pub made : List DumpRecord → ReadState → Option PropPart → List ℕ → Stream
-made rs r props text = if nat_lt 1048576 (length text) then Refuses rs TooLong else give rs r props (Some (AsWhole text))
+made rs r props text = if nat_lt TEXT_BYTES (length text) then Refuses rs TooLong else give rs r props (Some (AsWhole text))
 
 -- a whole text has its sum, where one is announced
 abbrev pub whole_text : List DumpRecord → ReadState → Option PropPart → List ℕ → Stream
@@ -120,7 +121,7 @@ keep_byte rs r b = Reads rs (record r { held = r.held ++ b ∷ [] })
 
 -- an LF ends a line, which has at most 4,096 bytes before it
 abbrev pub line_step : Place → List DumpRecord → ReadState → ℕ → Stream
-line_step place rs r b = if b == 10 then line_is place rs (record r { held = [] }) r.held else if nat_lt (length r.held) 4096 then keep_byte rs r b else Refuses rs TooLong
+line_step place rs r b = if b == 10 then line_is place rs (record r { held = [] }) r.held else if nat_lt (length r.held) LINE_BYTES then keep_byte rs r b else Refuses rs TooLong
 
 abbrev pub of_prop_fault : PropFault → DumpFault
 of_prop_fault prop_fault.BadProps = BadProps

@@ -4,6 +4,7 @@ use Rattle.std.specs.List.{flat_map, list_all}
 use Rattle.node_base.specs.Props.{PropMap, IsProps}
 use Rattle.node_base.specs.PathText.{is_path}
 use Rattle.node_base.specs.declared.node.Source.{Source}
+use Rattle.node_base.specs.declared.limits.TheConstants.{REVISION, TEXT_BYTES}
 use Rattle.dump_text.specs.Forms.{is_making, is_deletion}
 use Rattle.dump_text.specs.Canon.{told_kind, canon_head, canon_revision}
 use Rattle.dump_text.specs.Grammar.{IsRecords}
@@ -36,10 +37,10 @@ are_whole = list_all (λ r. is_whole_part r.props)
 pub record IsFormed (r : NodeRecord) : Type 0 where
   pub form : has_node_form r ≡ true
   pub whole : is_whole_part r.props ≡ true
-  pub text : IfSome r.text (λ t. length t ≤ 1048576)
+  pub text : IfSome r.text (λ t. length t ≤ TEXT_BYTES)
 
 abbrev pub IsKeptSource : Option Source → Type 0
-IsKeptSource source = IfSome source (λ s. (is_path s.path ≡ true) × (s.revision ≤ 65535))
+IsKeptSource source = IfSome source (λ s. (is_path s.path ≡ true) × (s.revision ≤ REVISION))
 
 abbrev pub IsKeptPart : Option PropPart → Type 0
 IsKeptPart props = IfSome props (λ part. IsProps (map_of part))
@@ -60,7 +61,7 @@ AreKept (r ∷ rs) = IsKept r × AreKept rs
 
 -- a revision that may be written
 pub record IsRevision (r : RevRecord) : Type 0 where
-  pub number : r.number ≤ 65535
+  pub number : r.number ≤ REVISION
   pub props : IsProps r.props
   pub kept : AreKept r.nodes.items
   pub formed : AreFormed r.nodes.items

@@ -4,7 +4,7 @@ ghost use Rattle.std.specs.Prelude.{◌≡◌};
 ghost use Rattle.dump_text.specs.Faults.{dump_refusal, number_of_fault};
 ghost use Rattle.dump_text.specs.declared.fault.DumpFault.TheVariants.{OutOfMemory};
 
-use node_base::Refusal;
+use node_base::{Refusal, texts};
 use std::alloc::{AllocError, AllocFailed};
 use thiserror::Error;
 
@@ -12,40 +12,40 @@ use thiserror::Error;
 #[derive(Clone, Copy, Debug, PartialEq, Eq, Error)]
 pub enum DumpFault {
     /// The first line isn't a version line of these formats (1).
-    #[error("unsupported dump format version")]
+    #[error("{}", texts::BAD_VERSION)]
     BadVersion,
     /// A header line or a block of headers that no record has (2).
-    #[error("bad header")]
+    #[error("{}", texts::BAD_HEADER)]
     BadHeader,
     /// A value that is no number, or a revision above 65,535 (3).
-    #[error("bad number")]
+    #[error("{}", texts::BAD_NUMBER)]
     BadNumber,
     /// `Content-length` isn't the sum of the two other lengths (4).
-    #[error("lengths do not agree")]
+    #[error("{}", texts::BAD_LENGTH)]
     BadLength,
     /// A property block that isn't one, or doesn't end where its length says (5).
-    #[error("bad property block")]
+    #[error("{}", texts::BAD_PROPS)]
     BadProps,
     /// A whole text that doesn't have its MD5 (6).
-    #[error("checksum mismatch")]
+    #[error("{}", texts::BAD_SUM)]
     BadSum,
     /// The input ends inside a record, or before the version block is whole (7).
-    #[error("unexpected end of input")]
+    #[error("{}", texts::TRUNCATED)]
     Truncated,
     /// A line, a length, a count or a path past its limit (8).
-    #[error("limit exceeded")]
+    #[error("{}", texts::TOO_LONG)]
     TooLong,
     /// A text is given as a delta, and the reader takes none (9).
-    #[error("text deltas are not supported")]
+    #[error("{}", texts::TEXT_DELTA)]
     TextDelta,
     /// A path outside the rule for names (10).
-    #[error("bad path")]
+    #[error("{}", texts::BAD_PATH)]
     BadPath,
     /// The reader has refused bytes before (32).
-    #[error("failed before")]
+    #[error("{}", texts::FAILED)]
     Failed,
     /// A growth was refused (70).
-    #[error("out of memory")]
+    #[error("{}", texts::OUT_OF_MEMORY)]
     OutOfMemory,
 }
 

@@ -10,6 +10,7 @@ use crate::delta::DeltaBytes;
 use crate::head::Head;
 use crate::limits::DELTA_BYTES;
 use crate::record::{DeltaText, DumpRecord, NodeRecord, PropPart, TextPart};
+use node_base::limits::{BLOCK_BYTES, TEXT_BYTES};
 use node_base::{Action, BlockReader, NodePath, Props, RevNo, Source};
 
 /// Which records may stand here.
@@ -163,7 +164,7 @@ fn text_limit(head: &Head) -> u64
     if gives_delta(head) {
         DELTA_BYTES
     } else {
-        1048576
+        TEXT_BYTES
     }
 }
 
@@ -171,7 +172,7 @@ fn text_limit(head: &Head) -> u64
 pub fn has_small_lengths(head: &Head) -> bool
     ensures { result ≡ lengths_fit head.now }
 {
-    head.prop_len.unwrap_or(0) <= 33554432 && head.text_len.unwrap_or(0) <= text_limit(head)
+    head.prop_len.unwrap_or(0) <= BLOCK_BYTES && head.text_len.unwrap_or(0) <= text_limit(head)
 }
 
 fn source_from(path: Option<NodePath>, revision: Option<RevNo>) -> Option<Source>

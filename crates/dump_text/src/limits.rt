@@ -4,20 +4,22 @@
 ghost use Rattle.std.specs.Prelude.{◌≡◌, ◌≤◌, [], ◌∷◌, true};
 ghost use Rattle.node_base.specs.Props.{IsProps};
 ghost use Rattle.node_base.specs.PathText.{is_path};
+ghost use Rattle.node_base.specs.declared.limits.TheConstants.{REVISION};
 ghost use Rattle.dump_text.specs.Canon.{canon_entry, canon_revision};
 ghost use Rattle.dump_text.specs.Written.{IsKept, IsKeptSource, IsKeptPart, AreKept, AreFormed, AreRecords};
 ghost use Rattle.dump_text.specs.Written.{read_revision};
 ghost use Rattle.dump_text.specs.declared.record.DumpRecord.TheVariants.{Revision};
 
 use crate::record::{NodeRecord, PropPart, RevRecord};
+use node_base::limits::TEXT_BYTES;
 use node_base::{NodePath, Props, RevNo, Source};
 
 /// How many bytes the delta of a text may have: twice as many as a text.
-pub const DELTA_BYTES: u64 = 2_097_152;
+pub const DELTA_BYTES: u64 = 2 * TEXT_BYTES;
 
 /// A revision number is at most 65,535.
 fn number_limit(number: RevNo)
-    ensures { number ≤ 65535 }
+    ensures { number ≤ REVISION }
 {
     number.get();
 }

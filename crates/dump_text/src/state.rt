@@ -4,6 +4,7 @@ ghost use Rattle.std.specs.Prelude.{◌≡◌, ◌≤◌, ◌<◌, ◌+◌, ◌+
 ghost use Rattle.std.specs.Prelude.{None, Ok, Err, IfOk, IfSome, OnErr, true, false, if◌then◌else◌};
 ghost use Rattle.md5.specs.Md5.{md5};
 ghost use Rattle.node_base.specs.Blocks.{begun};
+ghost use Rattle.node_base.specs.declared.limits.TheConstants.{PATH_BYTES};
 ghost use Rattle.dump_text.specs.Streams.{StreamIs, Reads, Refuses, begin, fresh_by, behind_version, spent, has_failed};
 ghost use Rattle.dump_text.specs.Streams.{give, whole_text, text_is};
 ghost use Rattle.dump_text.specs.Streams.{after_block, content, judged, line_is, reading, sum_holds, is_line_place};
@@ -23,6 +24,7 @@ use crate::held::HeldBytes;
 use crate::record::{DumpRecord, PropPart, TextPart};
 use md5::{Digest, Md5};
 use memchr::memchr;
+use node_base::limits::LINE_BYTES;
 use node_base::{BlockReader, NodePath, PropFault, Text, TextFault};
 use std::alloc::Global;
 use std::mem;
@@ -64,7 +66,7 @@ pub struct ReadState {
 /// How many bytes a path has that a header gave.
 fn path_len(path: &Option<NodePath>) -> usize
     ensures len { result ≡ path_bytes path.now }
-    ensures small { result ≤ 1024 }
+    ensures small { result ≤ PATH_BYTES }
 {
     match path {
         Some(path) => path.text_len(),
@@ -418,7 +420,7 @@ impl ReadState {
         ensures moves { IfOk result (λ k. (0 < k) × (k ≤ length piece.now)) }
         ensures out { OnErr result (out.new.items ≡ out.old.items) }
     {
-        let room = 4096usize.saturating_sub(self.held.len());
+        let room = LINE_BYTES.saturating_sub(self.held.len());
         let k = line_end(piece);
         if k > room {
             return Err(DumpFault::TooLong);

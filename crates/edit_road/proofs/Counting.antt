@@ -12,6 +12,7 @@ use Rattle.node_base.specs.Props.{PropMap, IsProps}
 use Rattle.node_base.specs.Tree.{PathMap}
 use Rattle.node_base.specs.declared.node.Action.{Action}
 use Rattle.node_base.specs.declared.node.Action.TheVariants.{Modify, Add, Delete, Replace}
+use Rattle.node_base.specs.declared.limits.TheConstants.{TEXT_BYTES}
 use Rattle.node_base.proofs.BlockLengths.{few_entries}
 use Rattle.node_base.proofs.ReadBack.{count_of_fits, fits_of_path}
 use Rattle.dump_load.specs.declared.change.Change.{Change}
@@ -64,7 +65,7 @@ pieces_few zero t = omega arith
 pieces_few (suc k) [] = omega arith
 pieces_few (suc k) (b ∷ t) = omega (arith, pieces_few k (drop 65536 (b ∷ t)))
 
-text_few : (p : Path) (o : Option (List ℕ)) → IfSome o (λ t. length t ≤ 1048576) → length (option_map_or (text_calls p) o []) ≤ 1048578
+text_few : (p : Path) (o : Option (List ℕ)) → IfSome o (λ t. length t ≤ TEXT_BYTES) → length (option_map_or (text_calls p) o []) ≤ 1048578
 text_few p None h = omega arith
 text_few p (Some t) h = omega (arith, h, pieces_few (length t) t, length-map (pieces t) (call.TextPiece p), length-append (map (call.TextPiece p) (pieces t)) (call.TextEnd p ∷ []))
 

@@ -11,6 +11,7 @@ use Rattle.node_base.specs.declared.node.NodeKind.TheVariants.{File, Dir}
 use Rattle.node_base.specs.declared.node.Action.TheVariants.{Modify, Add, Delete}
 use Rattle.node_base.specs.declared.fault.TreeFault.{TreeFault}
 use Rattle.node_base.specs.declared.fault.TreeFault.TheVariants.{TooLong, NoSuchPath, KindMismatch}
+use Rattle.node_base.specs.declared.limits.TheConstants.{TEXT_BYTES}
 use Rattle.node_base.proofs.PathLemmas.{same_path_itself, differs_of_no_rest}
 use Rattle.path_tree.specs.Calls.{fault_if, text_fault, is_dir}
 use Rattle.path_tree.specs.NodeCalls.{piece_fault, is_too_long_with}
@@ -49,7 +50,7 @@ joined b n None None = refl
 joined b n None (Some x) =
     elim x.text as (λ (t : Option (List ℕ)). option_or (refusal_of None (Some (record { text = t; props = x.props; changed = x.changed })) 1) (refusal_of None (Some (with_piece (b ∷ []) (record { text = t; props = x.props; changed = x.changed }))) (suc n)) ≡ refusal_of None (Some (record { text = t; props = x.props; changed = x.changed })) (suc (suc n))) [
       | None ↦ refl
-      | Some t ↦ or_if (nat_lt 1048576 (length t + 1)) (nat_lt 1048576 (length (t ++ b ∷ []) + suc n)) (nat_lt 1048576 (length t + suc (suc n))) (split 1048576 (length t) n (length (t ++ b ∷ [])) (length-append t (b ∷ [])))
+      | Some t ↦ or_if (nat_lt TEXT_BYTES (length t + 1)) (nat_lt TEXT_BYTES (length (t ++ b ∷ []) + suc n)) (nat_lt TEXT_BYTES (length t + suc (suc n))) (split TEXT_BYTES (length t) n (length (t ++ b ∷ [])) (length-append t (b ∷ [])))
     ]
 
 kept : (o : Option Node) → option_map kind_of (option_map (λ y. y) o) ≡ option_map kind_of o

@@ -15,6 +15,7 @@ use Rattle.node_base.specs.declared.node.Node.{Node}
 use Rattle.node_base.specs.declared.node.Source.{Source}
 use Rattle.node_base.specs.declared.node.Action.{Action}
 use Rattle.node_base.specs.declared.node.Action.TheVariants.{Modify, Add, Delete, Replace}
+use Rattle.node_base.specs.declared.limits.TheConstants.{TEXT_BYTES}
 use Rattle.node_base.proofs.ReadBack.{read_of_path}
 use Rattle.dump_load.specs.declared.change.Change.{Change}
 use Rattle.dump_load.specs.Changes.{is_delete}
@@ -146,13 +147,13 @@ loose_map : {X : Type 0} (f : X → Call) → ((x : X) → Loose (f x ∷ [])) �
 loose_map f h [] = loose_none
 loose_map f h (x ∷ xs) = loose_both (f x ∷ []) (map f xs) (h x) (loose_map f h xs)
 
-pieces_fit : (p : Path) (t have : List ℕ) (ps : List (List ℕ)) (ys : List Call) → have ++ concat ps ≡ t → length t ≤ 1048576 → ((g : Option (List ℕ)) → TextsFit g ys) → TextsFit (Some have) (map (call.TextPiece p) ps ++ call.TextEnd p ∷ call.CloseFile p (Some (md5 t)) ∷ ys)
+pieces_fit : (p : Path) (t have : List ℕ) (ps : List (List ℕ)) (ys : List Call) → have ++ concat ps ≡ t → length t ≤ TEXT_BYTES → ((g : Option (List ℕ)) → TextsFit g ys) → TextsFit (Some have) (map (call.TextPiece p) ps ++ call.TextEnd p ∷ call.CloseFile p (Some (md5 t)) ∷ ys)
 pieces_fit p t have [] ys e l r = (ap md5 (sym e ∙ append-nil have), r (Some have))
 pieces_fit p t have (x ∷ ps) ys e l r =
     let joined : (have ++ x) ++ concat ps ≡ t = append_assoc have x (concat ps) ∙ e in
     (omega (arith, l, ap length joined, length-append (have ++ x) (concat ps)), pieces_fit p t (have ++ x) ps ys joined l r)
 
-loose_text : (p : Path) (o : Option (List ℕ)) → IfSome o (λ t. length t ≤ 1048576) → Loose (option_map_or (text_calls p) o [] ++ call.CloseFile p (option_map md5 o) ∷ [])
+loose_text : (p : Path) (o : Option (List ℕ)) → IfSome o (λ t. length t ≤ TEXT_BYTES) → Loose (option_map_or (text_calls p) o [] ++ call.CloseFile p (option_map md5 o) ∷ [])
 loose_text p None h ys r None = r None
 loose_text p None h ys r (Some t) = (tt, r (Some t))
 loose_text p (Some t) h ys r g =

@@ -5,6 +5,7 @@ use Rattle.std.specs.FinMap as finite
 use Rattle.node_base.specs.Path.{Path}
 use Rattle.node_base.specs.Props.{IsProps}
 use Rattle.node_base.specs.Tree.{PathMap, IsDirAt, base}
+use Rattle.node_base.specs.declared.limits.TheConstants.{REVISION}
 use Rattle.dump_load.specs.declared.change.Change.{Change}
 use Rattle.dump_load.specs.Bounds.{IsBounded}
 use Rattle.dump_load.specs.Changes.{IsNormal}
@@ -34,7 +35,7 @@ HasProps m = (q : Path) → IfSome (finite.get m q) (λ x. IsProps x.props)
 
 -- a set that may be sent as the revision after some trees
 pub record IsSent (trees : List PathMap) (s : List Change) : Type 0 where
-  pub numbered : length trees ≤ 65535
+  pub numbered : length trees ≤ REVISION
   pub root : IsDirAt (base trees) []
   pub nodes : AllByRecursion HasProps trees
   pub bounded : IsBounded s

@@ -1,5 +1,6 @@
 //! A set of changes from the items of an edit.
 ghost use Rattle.std.specs.Prelude.{◌≡◌, ◌≤◌, length, true, false, IfOk, IfErr, OnOk, OnErr};
+ghost use Rattle.node_base.specs.declared.limits.TheConstants.{REVISION};
 ghost use Rattle.ra_item.specs.ItemStreams.{reader_of, meanwhile, is_spent};
 ghost use Rattle.byte_streams.specs.Causes.{Fails};
 ghost use Rattle.ra_edit.specs.declared.edit_fault.EditFault.TheVariants.{PeerFailed};
@@ -28,7 +29,7 @@ pub fn receive_set<I: Input + Drop>(
     trees: &[Tree],
     items: &mut ItemStream<I>,
 ) -> Result<Applied, EditFault>
-    requires few { length trees.now ≤ 65535 }
+    requires few { length trees.now ≤ REVISION }
     ensures edit { IfOk result (λ a. IsNextEdit I.remaining trees.now items.old items.new a.set) }
     ensures makes { IfOk result (λ a. Makes trees.now a.set a.tree) }
     ensures stopped { IfErr result (RefusesEdit I.remaining I.failures I.reads trees.now items.old items.new) }

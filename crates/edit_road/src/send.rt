@@ -1,5 +1,6 @@
 //! A set of changes as the bytes of an edit.
 ghost use Rattle.std.specs.Prelude.{◌≡◌, ◌≤◌, ◌⊎◌, length, None, IfOk, IfErr, OnOk, if◌then◌else◌};
+ghost use Rattle.node_base.specs.declared.limits.TheConstants.{REVISION};
 ghost use Rattle.dump_load.specs.Faults.{fault};
 ghost use Rattle.delta_editor.specs.declared.fault.EditorFault.TheVariants.{OutOfMemory, PeerFailed};
 ghost use Rattle.edit_road.specs.Sending.{Sends, IsUnsent, IsToldOnlyBy};
@@ -25,7 +26,7 @@ pub fn send_set<W: Write + Drop>(
     set: &ChangeSet,
     out: W,
 ) -> Result<W, EditorFault>
-    requires few { length trees.now ≤ 65535 }
+    requires few { length trees.now ≤ REVISION }
     ensures written { IfOk result (Sends W.contents trees.now set.now out) }
     ensures faultless { OnOk result (fault trees.now set.now ≡ None) }
     ensures refused { IfErr result (IsUnsent trees.now set.now) }
@@ -58,7 +59,7 @@ pub fn send_set_to<O: Output + Drop>(
     set: &ChangeSet,
     out: O,
 ) -> Result<O, Unsent<O>>
-    requires few { length trees.now ≤ 65535 }
+    requires few { length trees.now ≤ REVISION }
     ensures written { IfOk result (Sends O.contents trees.now set.now out) }
     ensures faultless { OnOk result (fault trees.now set.now ≡ None) }
     ensures refused { IfErr result (λ u. IsUnsent trees.now set.now u.fault) }

@@ -14,6 +14,7 @@ use Rattle.node_base.proofs.EntryLemmas.{both_true, find_absent}
 use Rattle.node_base.specs.declared.node.Node.{Node}
 use Rattle.node_base.specs.Tree.{PathMap, base, blocked, changed_at, kind_of}
 use Rattle.node_base.specs.declared.fault.TreeFault.TheVariants.{TooLong, NoSuchPath, KindMismatch}
+use Rattle.node_base.specs.declared.limits.TheConstants.{TEXT_BYTES}
 use Rattle.path_tree.specs.Calls.{fault_if}
 use Rattle.path_tree.specs.NodeCalls.{is_one_too_many, is_too_long_with}
 use Rattle.dump_load.specs.declared.change.Change.{Change}
@@ -132,24 +133,24 @@ module _ (trees : List PathMap) (p : Path) (prop : Name → Option (List ℕ) �
 
 -- ---- texts
 
-room : (t piece more : List ℕ) → length t + length (piece ++ more) ≤ 1048576 → nat_lt 1048576 (length t + length piece) ≡ false
+room : (t piece more : List ℕ) → length t + length (piece ++ more) ≤ TEXT_BYTES → nat_lt TEXT_BYTES (length t + length piece) ≡ false
 room t piece more l = short (length t + length piece) (omega (arith, l, length-append piece more))
   where
-    short : (n : ℕ) → n ≤ 1048576 → nat_lt 1048576 n ≡ false
+    short : (n : ℕ) → n ≤ TEXT_BYTES → nat_lt TEXT_BYTES n ≡ false
     short n l = grind (arith, nat_tests)
 
 module _ (trees : List PathMap) (p : Path) where
-  pieces_free : (ps : List (List ℕ)) (done : List Call) (x : Node) (t : List ℕ) → Stands trees done p x → x.text ≡ Some t → length t + length (concat ps) ≤ 1048576 → Free trees done (map (call.TextPiece p) ps ++ call.TextEnd p ∷ [])
+  pieces_free : (ps : List (List ℕ)) (done : List Call) (x : Node) (t : List ℕ) → Stands trees done p x → x.text ≡ Some t → length t + length (concat ps) ≤ TEXT_BYTES → Free trees done (map (call.TextPiece p) ps ++ call.TextEnd p ∷ [])
   pieces_free [] done x t h is l = refl
   pieces_free (piece ∷ ps) done x t h is l =
       free_one trees done (call.TextPiece p piece) (map (call.TextPiece p) ps ++ call.TextEnd p ∷ [])
       ((λ i. option_map refused (option_or (option_or (option_or (h.free i) (fault_if (is_none (h.at i)) NoSuchPath)) (fault_if (Rattle.path_tree.specs.Calls.is_dir (h.at i)) KindMismatch)) (fault_if (is_too_long_with (length piece) (h.at i)) TooLong)))
-      ∙ (λ i. option_map refused (option_or (fault_if (is_none (is i)) KindMismatch) (fault_if (option_map_or (λ t. nat_lt 1048576 (length t + length piece)) (is i) false) TooLong)))
+      ∙ (λ i. option_map refused (option_or (fault_if (is_none (is i)) KindMismatch) (fault_if (option_map_or (λ t. nat_lt TEXT_BYTES (length t + length piece)) (is i) false) TooLong)))
       ∙ (λ i. option_map refused (fault_if (room t piece (concat ps) l i) TooLong))
       )
       (pieces_free ps (done ++ call.TextPiece p piece ∷ []) (with_piece piece x) (t ++ piece) (stands_next trees done p x (call.TextPiece p piece) (with_piece piece) (record { is = λ trees f q. refl }) h) (ap (option_map (λ t. t ++ piece)) is) (omega (arith, l, length-append t piece, length-append piece (concat ps))))
 
-  pub text_free : (text : List ℕ) (done : List Call) (x : Node) → Stands trees done p x → is_some x.text ≡ true → length text ≤ 1048576 → Free trees done (text_calls p text)
+  pub text_free : (text : List ℕ) (done : List Call) (x : Node) → Stands trees done p x → is_some x.text ≡ true → length text ≤ TEXT_BYTES → Free trees done (text_calls p text)
   text_free text done x h file l =
       free_one trees done (call.TextStart p) (map (call.TextPiece p) (pieces text) ++ call.TextEnd p ∷ [])
       ((λ i. option_map refused (option_or (option_or (h.free i) (fault_if (is_none (h.at i)) NoSuchPath)) (fault_if (Rattle.path_tree.specs.Calls.is_dir (h.at i)) KindMismatch)))
@@ -173,7 +174,7 @@ parts_free trees file c old done x within h is text = by file text
     some_props prop faults changes None w tail k = k done x h refl
     some_props prop faults changes (Some new) w tail k = props_free trees p prop faults changes new w old done x tail h is k
 
-    some_text : (t : Option (List ℕ)) → IfSome t (λ t. length t ≤ 1048576) → (sum : Option (List ℕ)) (after : List Call) (y : Node) → Stands trees after p y → is_some y.text ≡ true → Free trees after (option_map_or (text_calls p) t [] ++ call.CloseFile p sum ∷ [])
+    some_text : (t : Option (List ℕ)) → IfSome t (λ t. length t ≤ TEXT_BYTES) → (sum : Option (List ℕ)) (after : List Call) (y : Node) → Stands trees after p y → is_some y.text ≡ true → Free trees after (option_map_or (text_calls p) t [] ++ call.CloseFile p sum ∷ [])
     some_text None w sum after y s f = refl
     some_text (Some t) w sum after y s f = free_both trees after (text_calls p t) (call.CloseFile p sum ∷ []) (text_free trees p t after y s f w) refl
 

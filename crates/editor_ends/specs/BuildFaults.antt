@@ -11,6 +11,7 @@ use Rattle.node_base.specs.declared.node.NodeKind.TheVariants.{File, Dir}
 use Rattle.node_base.specs.declared.node.Action.{Action}
 use Rattle.node_base.specs.declared.node.Action.TheVariants.{Modify, Add, Delete}
 use Rattle.node_base.specs.declared.node.Source.{Source}
+use Rattle.node_base.specs.declared.limits.TheConstants.{CHANGES, PROP_VALUE_BYTES}
 use Rattle.path_tree.specs.Calls.{text_fault}
 use Rattle.path_tree.specs.NodeCalls.{prop_fault, piece_fault}
 use Rattle.dump_load.specs.declared.change.Change.{Change}
@@ -66,7 +67,7 @@ beginning trees done x = begin_fault trees (call_effect trees done) (is_late don
 
 -- a value of more than 65,536 bytes
 abbrev pub is_long : Option (List ℕ) → Bool
-is_long value = option_map_or (λ v. nat_lt 65536 (length v)) value false
+is_long value = option_map_or (λ v. nat_lt PROP_VALUE_BYTES (length v)) value false
 
 -- why a property isn't put where f is what is there
 abbrev pub put_fault : (Path → Option Node) → Path → Name → Option (List ℕ) → Option EditorFault
@@ -121,7 +122,7 @@ pub record IsTooLarge (trees : List PathMap) (calls : List Call) : Type 0 where
   pub normal : IsNormal set
   pub is : (q : Path) → effect trees set q ≡ call_effect trees calls q
   pub changed : AllByRecursion (λ c. is_changed calls c.path ≡ true) set
-  pub many : 4096 < length set
+  pub many : CHANGES < length set
 
 -- memory ran out, it is the fault of the call, or the calls come to too many changes
 pub data IsCallRefusal (trees : List PathMap) (done : List Call) (c : Call) (e : EditorFault) : Type 0 where

@@ -10,6 +10,7 @@ use Rattle.node_base.specs.Tree.{PathMap, marked, changed_at}
 use Rattle.node_base.specs.declared.node.Node.{Node}
 use Rattle.dump_load.specs.declared.change.Change.{Change}
 use Rattle.node_base.specs.declared.node.Action.TheVariants.{Delete, Replace}
+use Rattle.node_base.specs.declared.limits.TheConstants.{CHANGES, REVISION}
 use Rattle.dump_load.specs.Changes.{settles, is_delete, is_add, brings, change_at, IsNormal}
 use Rattle.path_tree.specs.declared.error.TreeError.{TreeError}
 use Rattle.path_tree.specs.declared.error.TreeError.TheVariants.{Fault}
@@ -69,7 +70,7 @@ is_late_in s x = is_taken s x.path || (is_delete x.action && is_above s x.path)
 
 -- the changes, their parts filled in, have the tree as their effect; they are a normal set without a fault; and something is above each
 pub record Made (trees : List PathMap) (tree : PathMap) (s : List Change) : Type 0 where
-  pub numbered : length trees ≤ 65535
+  pub numbered : length trees ≤ REVISION
   pub made : (q : Path) → effect trees (map (filled (finite.get tree)) s) q ≡ finite.get tree q
   pub normal : IsNormal s
   pub faultless : fault trees s ≡ None
@@ -153,7 +154,7 @@ pub record IsSetOver (trees : List PathMap) (f : Path → Option Node) (changes 
   pub needed : AllByRecursion (λ c. is_needed changes c.path ≡ true) set
   pub whole : (p : Path) → is_needed changes p ≡ true → IsSome (change_at set p)
   pub stems : AllByRecursion (IsFilledOf f changes) set
-  pub few : length set ≤ 4096
+  pub few : length set ≤ CHANGES
 
 -- it takes more changes than that
 pub record IsTooMany (trees : List PathMap) (f : Path → Option Node) (changes : List Change) : Type 0 where
@@ -161,7 +162,7 @@ pub record IsTooMany (trees : List PathMap) (f : Path → Option Node) (changes 
   pub normal : IsNormal set
   pub is : (q : Path) → effect trees set q ≡ f q
   pub needed : AllByRecursion (λ c. is_needed changes c.path ≡ true) set
-  pub many : 4096 < length set
+  pub many : CHANGES < length set
 
 -- memory ran out, or there are too many changes
 pub data IsFinishRefusal (trees : List PathMap) (f : Path → Option Node) (changes : List Change) (e : EditorFault) : Type 0 where
@@ -221,7 +222,7 @@ pub record IsSetOf (trees : List PathMap) (set : List Change) (calls : List Call
   pub changed : AllByRecursion (λ c. is_changed calls c.path ≡ true) set
   pub whole : (p : Path) → is_changed calls p ≡ true → IsSome (change_at set p)
   pub asked : AllByRecursion (IsAsked trees calls) set
-  pub few : length set ≤ 4096
+  pub few : length set ≤ CHANGES
 
 abbrev pub IsSetWithin : List PathMap → List Change → List Call → Type 0
 IsSetWithin trees set calls = IsNested calls → IsSetOf trees set calls

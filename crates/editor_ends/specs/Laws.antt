@@ -3,6 +3,7 @@ use Rattle.std.specs.Prelude.{◌≡◌, ℕ, ◌<◌, ◌≤◌, List, [], ◌�
 use Rattle.std.specs.List.{AllByRecursion, concat}
 use Rattle.node_base.specs.Path.{Name, Path}
 use Rattle.node_base.specs.Tree.{PathMap, IsDirAt, base}
+use Rattle.node_base.specs.declared.limits.TheConstants.{CHANGES}
 use Rattle.dump_load.specs.declared.change.Change.{Change}
 use Rattle.dump_load.specs.Bounds.{IsWithin}
 use Rattle.dump_load.specs.Changes.{IsNormal}
@@ -38,7 +39,7 @@ DriveIsTaken = (trees : List PathMap) (s : List Change) → IsNormal s → fault
 
 -- and such a drive, of no more than 4,096 changes, is refused for want of memory alone
 abbrev pub DriveForMemoryAlone : Type 0
-DriveForMemoryAlone = (trees : List PathMap) (s : List Change) (e : EditorFault) → IsNormal s → fault trees s ≡ None → IsDirAt (base trees) [] → AllByRecursion IsWithin s → length s ≤ 4096 → IsDriveRefusal RefusesWithin trees trees s e → e ≡ OutOfMemory
+DriveForMemoryAlone = (trees : List PathMap) (s : List Change) (e : EditorFault) → IsNormal s → fault trees s ≡ None → IsDirAt (base trees) [] → AllByRecursion IsWithin s → length s ≤ CHANGES → IsDriveRefusal RefusesWithin trees trees s e → e ≡ OutOfMemory
 
 -- so much is left of these two of a set and of trees of a program, whose types keep the limits: where the set has no fault over the trees, no call of its drive is refused
 abbrev pub IsTaken : List PathMap → List Change → Type 0

@@ -4,6 +4,7 @@ ghost use Rattle.std.specs.Prelude.{IsSome, IfOk, IfErr, OnOk};
 ghost use Rattle.std.specs.Option.{option_copied};
 ghost use Rattle.std.specs.FinMap as map;
 ghost use Rattle.node_base.specs.Tree.{PathMap};
+ghost use Rattle.node_base.specs.declared.limits.TheConstants.{REVISION};
 ghost use Rattle.delta_editor.specs.Nesting.{IsNested};
 ghost use Rattle.delta_editor.specs.declared.call.Call.{Call};
 ghost use Rattle.dump_load.specs.Changes.{is_add, is_delete, settles, IsNormal};
@@ -98,7 +99,7 @@ impl<'a> Built<'a> {
 impl<'a> BuildEditor<'a> {
     /// An editor that was shown nothing yet, over the trees of the revisions so far, 65,535 at most, the newest last.
     pub fn new(alloc: Global, trees: &'a [Tree]) -> Result<BuildEditor<'a>, AllocError>
-        requires { length trees.now ≤ 65535 }
+        requires { length trees.now ≤ REVISION }
         ensures new { IfOk result (λ e. has_shown e []) }
         ensures over { IfOk result (λ e. trees_of e ≡ trees.now) }
     {

@@ -22,6 +22,7 @@ ghost use Rattle.editor_ends.specs.Built.{giving_props, giving_text, told};
 
 use delta_editor::EditorFault;
 use dump_load::{Change, fault_of, is_add, is_delete, settles, step};
+use node_base::limits::REVISION;
 use node_base::{Action, NodeKind, NodePath, PropName, PropValue, Props, Source, Text, TreeFault};
 use path_tree::{Tree, TreeError};
 use std::alloc::{AllocError, Global};
@@ -94,10 +95,10 @@ fn make(alloc: Global, trees: &[Tree], tree: &mut Tree, change: &Change) -> Resu
     ensures made { OnOk result ((q : Path)
         → map.get tree.new q ≡ stepped trees.now (map.get tree.old) change.now q) }
     ensures faultless { OnOk result (fault_of trees.now (map.get tree.old) change.now ≡ None) }
-    ensures refused { IfErr result (λ e. length trees.now ≤ 65535
+    ensures refused { IfErr result (λ e. length trees.now ≤ REVISION
         → IsFaultOr (option_map refused (fault_of trees.now (map.get tree.old) change.now)) e) }
 {
-    if trees.len() > 65_535 {
+    if trees.len() > REVISION as usize {
         return Err(EditorFault::WrongNumber);
     }
     if let Some(fault) = fault_of(trees, tree, change) {

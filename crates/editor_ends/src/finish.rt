@@ -8,6 +8,7 @@ ghost use Rattle.editor_ends.specs.Built.{Made, Keeps, IsLean, IsSetOver, IsFini
 
 use delta_editor::EditorFault;
 use dump_load::{Change, ChangeSet, settles};
+use node_base::limits::CHANGES;
 use path_tree::Tree;
 use std::alloc::{AllocError, Global};
 
@@ -73,7 +74,7 @@ pub fn finish(alloc: Global, tree: &Tree, changes: Vec<Change>) -> Result<Change
     for change in changes {
         keep(&mut kept, filled(tree, change)?)?;
     }
-    if kept.len() > 4096 {
+    if kept.len() > CHANGES {
         return Err(EditorFault::TooLong);
     }
     match ChangeSet::from_changes(kept) {

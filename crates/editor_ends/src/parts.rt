@@ -1,6 +1,7 @@
 //! What is shown of one change.
 ghost use Rattle.std.specs.Prelude.{◌≡◌, ◌≤◌, ◌++◌, [], true, false, length, IfOk, IfErr, OnOk};
 ghost use Rattle.std.specs.Option.{option_map_or, option_copied};
+ghost use Rattle.node_base.specs.declared.limits.TheConstants.{REVISION};
 ghost use Rattle.delta_editor.specs.Calls.{Adds};
 ghost use Rattle.delta_editor.specs.declared.call.Call.TheVariants as call;
 ghost use Rattle.dump_load.specs.Changes.{is_delete};
@@ -18,7 +19,7 @@ use path_tree::Tree;
 
 /// The revision before the one that is shown.
 pub fn base_of(trees: &[Tree]) -> Option<RevNo>
-    requires { length trees.now ≤ 65535 }
+    requires { length trees.now ≤ REVISION }
     ensures { result ≡ base_number trees.now }
 {
     match trees.split_last() {
@@ -40,7 +41,7 @@ fn open_file<E: Editor>(
     trees: &[Tree],
     change: &Change,
 ) -> Result<E::File, EditorFault>
-    requires few { length trees.now ≤ 65535 }
+    requires few { length trees.now ≤ REVISION }
     requires up { E.dir_path up.old ≡ above change.now.path }
     requires stays { is_delete change.now.action ≡ false }
     ensures shown { OnOk result (Adds E.shows editor.old editor.new (opening trees.now true change.now)) }
@@ -69,7 +70,7 @@ fn open_dir<E: Editor>(
     trees: &[Tree],
     change: &Change,
 ) -> Result<E::Dir, EditorFault>
-    requires few { length trees.now ≤ 65535 }
+    requires few { length trees.now ≤ REVISION }
     requires up { E.dir_path up.old ≡ above change.now.path }
     requires stays { is_delete change.now.action ≡ false }
     ensures shown { OnOk result (Adds E.shows editor.old editor.new (opening trees.now false change.now)) }
@@ -122,7 +123,7 @@ pub fn show_file<E: Editor>(
     change: &Change,
     old: &Props,
 ) -> Result<(), EditorFault>
-    requires few { length trees.now ≤ 65535 }
+    requires few { length trees.now ≤ REVISION }
     requires up { E.dir_path up.old ≡ above change.now.path }
     requires stays { is_delete change.now.action ≡ false }
     ensures shown { OnOk result
@@ -151,7 +152,7 @@ pub fn show_dir<E: Editor>(
     change: &Change,
     old: &Props,
 ) -> Result<E::Dir, EditorFault>
-    requires few { length trees.now ≤ 65535 }
+    requires few { length trees.now ≤ REVISION }
     requires up { E.dir_path up.old ≡ above change.now.path }
     requires stays { is_delete change.now.action ≡ false }
     ensures shown { OnOk result

@@ -3,6 +3,7 @@ ghost use Rattle.std.specs.Prelude.{◌≡◌, ◌≤◌, ◌<◌, ◌+◌, ◌�
 ghost use Rattle.std.specs.Prelude.{IfOk, IfErr, OnOk};
 ghost use Rattle.std.specs.List.{slice_get};
 ghost use Rattle.std.specs.FinMap as map;
+ghost use Rattle.node_base.specs.declared.limits.TheConstants.{REVISION};
 ghost use Rattle.dump_load.specs.declared.change.Change.{Change};
 ghost use Rattle.dump_load.specs.Changes.{IsNormal};
 ghost use Rattle.dump_load.specs.Faults.{fault_of};
@@ -55,7 +56,7 @@ fn old_props(trees: &[Tree], tree: &Tree, change: &Change) -> Result<Props, Allo
 
 /// Makes the next change in the tree that those before it left, where it has no fault there.
 pub fn advance(revision: &Revision<'_>, progress: &mut Progress) -> Result<Plan, EditorFault>
-    requires few { length revision.now.trees.now ≤ 65535 }
+    requires few { length revision.now.trees.now ≤ REVISION }
     requires normal { IsNormal revision.now.set.now }
     requires here { progress.old.next < length revision.now.set.now }
     requires walked { Walked revision.now.trees.now revision.now.set.now progress.old.next progress.old.tree }

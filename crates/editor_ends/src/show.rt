@@ -3,6 +3,7 @@ ghost use Rattle.std.specs.Prelude.{◌≡◌, ◌≤◌, ◌<◌, ◌++◌, ◌
 ghost use Rattle.std.specs.Prelude.{IfOk, IfErr, IsOk, MatchOption, OnOk};
 ghost use Rattle.node_base.specs.Path.{Path, is_front};
 ghost use Rattle.node_base.specs.Limits.{fits};
+ghost use Rattle.node_base.specs.declared.limits.TheConstants.{REVISION};
 ghost use Rattle.delta_editor.specs.Calls.{Adds};
 ghost use Rattle.delta_editor.specs.declared.call.Call.TheVariants as call;
 ghost use Rattle.delta_editor.specs.declared.fault.EditorFault.TheVariants.{OutOfMemory};
@@ -35,7 +36,7 @@ fn show_change<E: Editor>(
     editor: &mut E,
     up: &mut E::Dir,
 ) -> Result<Option<E::Dir>, EditorFault>
-    requires few { length trees.now ≤ 65535 }
+    requires few { length trees.now ≤ REVISION }
     requires up { E.dir_path up.old ≡ above change.now.path }
     requires below_root { is_front change.now.path [] ≡ false }
     ensures shown { OnOk result
@@ -68,7 +69,7 @@ fn enter<E: Editor>(
     up: &mut E::Dir,
     path: &NodePath,
 ) -> Result<Option<E::Dir>, EditorFault>
-    requires few { length revision.now.trees.now ≤ 65535 }
+    requires few { length revision.now.trees.now ≤ REVISION }
     requires normal { IsNormal revision.now.set.now }
     requires here { progress.old.next < length revision.now.set.now }
     requires walked { Walked revision.now.trees.now revision.now.set.now progress.old.next progress.old.tree }
@@ -136,7 +137,7 @@ fn show_below<E: Editor>(
     dir: &mut E::Dir,
     at: &NodePath,
 ) -> Result<(), EditorFault>
-    requires few { length revision.now.trees.now ≤ 65535 }
+    requires few { length revision.now.trees.now ≤ REVISION }
     requires normal { IsNormal revision.now.set.now }
     requires within { progress.old.next ≤ length revision.now.set.now }
     requires walked { Walked revision.now.trees.now revision.now.set.now progress.old.next progress.old.tree }
@@ -182,7 +183,7 @@ fn show_root<E: Editor>(
     editor: &mut E,
     root: &mut E::Dir,
 ) -> Result<(), EditorFault>
-    requires few { length revision.now.trees.now ≤ 65535 }
+    requires few { length revision.now.trees.now ≤ REVISION }
     requires normal { IsNormal revision.now.set.now }
     requires first { progress.old.next ≡ 0 }
     requires walked { Walked revision.now.trees.now revision.now.set.now progress.old.next progress.old.tree }
@@ -220,7 +221,7 @@ fn show_all<E: Editor>(
     editor: &mut E,
     root: &mut E::Dir,
 ) -> Result<(), EditorFault>
-    requires few { length revision.now.trees.now ≤ 65535 }
+    requires few { length revision.now.trees.now ≤ REVISION }
     requires normal { IsNormal revision.now.set.now }
     requires at { E.dir_path root.old ≡ [] }
     ensures faultless { OnOk result (fault revision.now.trees.now revision.now.set.now ≡ None) }
@@ -243,7 +244,7 @@ fn show_all<E: Editor>(
 
 // Shows the whole edit but its end.
 fn show_edit<E: Editor>(revision: &Revision<'_>, editor: &mut E) -> Result<(), EditorFault>
-    requires few { length revision.now.trees.now ≤ 65535 }
+    requires few { length revision.now.trees.now ≤ REVISION }
     requires normal { IsNormal revision.now.set.now }
     ensures faultless { OnOk result (fault revision.now.trees.now revision.now.set.now ≡ None) }
     ensures shown { OnOk result
@@ -274,7 +275,7 @@ pub fn show_changes<E: Editor>(
     changes: &[Change],
     editor: &mut E,
 ) -> Result<(), EditorFault>
-    requires few { length trees.now ≤ 65535 }
+    requires few { length trees.now ≤ REVISION }
     requires normal { IsNormal changes.now }
     ensures faultless { OnOk result (fault trees.now changes.now ≡ None) }
     ensures shown { OnOk result
@@ -310,7 +311,7 @@ pub fn drive<E: Editor>(
     set: &ChangeSet,
     editor: E,
 ) -> Result<E::Done, EditorFault>
-    requires few { length trees.now ≤ 65535 }
+    requires few { length trees.now ≤ REVISION }
     requires new { E.shows editor [] }
     ensures began { IfOk result (λ d. E.done_began d ≡ E.began editor) }
     ensures shown { IfOk result (λ d. E.done_shows d (calls.drive trees.now set.now)) }

@@ -8,6 +8,7 @@ use Rattle.node_base.specs.declared.fault.PathFault.{PathFault}
 use Rattle.node_base.specs.declared.fault.PathFault.TheVariants as path
 use Rattle.node_base.specs.declared.prop_fault.PropFault.TheVariants as prop
 use Rattle.node_base.specs.Numbers.{decimal, rev_read}
+use Rattle.node_base.specs.declared.limits.TheConstants.{TEXT_BYTES}
 use Rattle.dump_text.specs.Headers.{same, version_in, split_line, known_name, path_said, without_slash, kind_of, action_of, identity_of, sum_of}
 use Rattle.dump_text.specs.Heads.{line_says, header_says, known_says, once, with_value, with_path}
 use Rattle.dump_text.specs.Forms.{record_of, stage_after, fits_form, lengths_agree, lengths_fit, is_delta, gives_delta, delta_of, part_of}
@@ -117,7 +118,7 @@ given_like front rs r None = refused_like front rs fault.BadHeader refl
 given_like front rs r (Some rec) = record { fine = λ _. refl; alike = ap (λ x. Reads x (begin r.head.deltas r.version at.Between (stage_after r.stage rec))) (append_assoc front rs (rec ∷ [])) }
 
 made_like : {H : Type 0} (front rs : List DumpRecord) (r : ReadState) (props : Option PropPart) (text : List ℕ) → Like H front (made rs r props text) (made (front ++ rs) r props text)
-made_like front rs r props text = if_like front (nat_lt 1048576 (length text)) _ _ _ _ (refused_like front rs fault.TooLong refl) (given_like front rs r (record_of r.head props (Some (AsWhole text))))
+made_like front rs r props text = if_like front (nat_lt TEXT_BYTES (length text)) _ _ _ _ (refused_like front rs fault.TooLong refl) (given_like front rs r (record_of r.head props (Some (AsWhole text))))
 
 whole_like : {H : Type 0} (front rs : List DumpRecord) (r : ReadState) (props : Option PropPart) (text : List ℕ) → Like H front (whole_text rs r props text) (whole_text (front ++ rs) r props text)
 whole_like front rs r props text = if_like front (sum_holds r.head.sum text) _ _ _ _ (made_like front rs r props text) (refused_like front rs fault.BadSum refl)

@@ -5,20 +5,20 @@ ghost use Rattle.fleet_jobs.specs.Faults.{refusal_of};
 
 use crate::order::{Order, Outcome};
 use crate::queue::Seat;
-use node_base::Refusal;
+use node_base::{Refusal, texts};
 use thiserror::Error;
 
 /// Why an order is refused.
 #[derive(Clone, Copy, Debug, PartialEq, Eq, Drop, Error)]
 pub enum FleetFault {
     /// No worker is left (32).
-    #[error("failed before")]
+    #[error("{}", texts::FAILED)]
     Failed,
     /// The slot has no mirror, or there is no slot of that number (34).
-    #[error("no repository")]
+    #[error("{}", texts::NO_REPOSITORY)]
     NoRepository,
     /// A growth was refused (70).
-    #[error("out of memory")]
+    #[error("{}", texts::OUT_OF_MEMORY)]
     OutOfMemory,
 }
 

@@ -16,6 +16,7 @@ use Rattle.node_base.specs.Path.{Path}
 use Rattle.node_base.specs.PathText.{path_read}
 use Rattle.node_base.specs.declared.refusal.Refusal.{Refusal}
 use Rattle.node_base.specs.declared.refusal.Refusal.TheVariants as refusal
+use Rattle.node_base.specs.declared.limits.TheConstants.{PROP_VALUE_BYTES}
 use Rattle.repo_core.specs.Repository.{Repository, Revision, fresh, head_of, props_at}
 use Rattle.repo_store.specs.Journal.{beginning_of, Keeps, KeepsAlike, KeepsOr, ReopensTo}
 use Rattle.repo_store.specs.Words.{disk_of, doubt_of, identity_of, log_of, repository_of, revisions_of, HasFailed}
@@ -301,7 +302,7 @@ pub data UnopenedBoth {F D : Type 0} (G : Ghosts D) (H : FolderGhosts F D) (fold
 
 -- the words of a source that are no value of a property, being too long, aren't kept; or memory ran out
 abbrev pub NotKept : List ℕ → Option (List ℕ) → Option (List ℕ) → Refusal → Type 0
-NotKept source before now e = ((e ≡ refusal.OutOfMemory) ⊎ ((e ≡ refusal.TooLong) × (65536 < length source))) × (now ≡ before)
+NotKept source before now e = ((e ≡ refusal.OutOfMemory) ⊎ ((e ≡ refusal.TooLong) × (PROP_VALUE_BYTES < length source))) × (now ≡ before)
 
 -- a command isn't done: why, what is written then, and what is left of the folders; the output had failed so often at the start and has by now
 abbrev pub IsNotDone : {F D : Type 0} → Ghosts D → FolderGhosts F D → F → F → Command → Option (List ℕ) → Option (List ℕ) → ℕ → Option (List ℕ) → ℕ → Refusal → Type 0

@@ -330,7 +330,7 @@ fn initialize<F: Folders, O: Output + Drop>(
 pub(crate) fn url_of(alloc: Global, source: &str) -> Result<PropValue, Refusal>
     ensures url { IfOk result (λ url. url ≡ source.now) }
     ensures refused { IfErr result (λ e. (e ≡ Refusal.OutOfMemory)
-        ⊎ ((e ≡ Refusal.TooLong) × (65536 < length source.now))) }
+        ⊎ ((e ≡ Refusal.TooLong) × (PROP_VALUE_BYTES < length source.now))) }
 {
     if source.len() > PROP_VALUE_BYTES {
         return Err(Refusal::TooLong);

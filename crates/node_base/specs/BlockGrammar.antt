@@ -4,6 +4,7 @@ use Rattle.std.specs.FinMap as map
 use Rattle.node_base.specs.Numbers.{is_digit, all_bytes, number_of}
 use Rattle.node_base.specs.Entries.{Entries}
 use Rattle.node_base.specs.Props.{PropMap, is_prop_name, props_fit}
+use Rattle.node_base.specs.declared.limits.TheConstants.{PROP_NAME_BYTES, PROP_VALUE_BYTES}
 
 -- digits spell a number, with leading zeros or without
 pub record Spells (digits : List ℕ) (n : ℕ) : Type 0 where
@@ -37,14 +38,14 @@ IsBlock delta bytes (Removes name ∷ es) = (k rest : List ℕ) × (delta ≡ tr
 -- a name that may stand behind others: it fits the rule and the limit, and no entry before it has it
 pub record IsNewName (props removed : PropMap) (name : List ℕ) : Type 0 where
   pub rule : is_prop_name name ≡ true
-  pub short : length name ≤ 255
+  pub short : length name ≤ PROP_NAME_BYTES
   pub unset : map.contains_key props name ≡ false
   pub unremoved : map.contains_key removed name ≡ false
 
 -- a property that may stand behind others: its name may, its value fits the limit, and all properties are within the limits together
 pub record MayFollow (props removed : PropMap) (name value : List ℕ) : Type 0 where
   pub new : IsNewName props removed name
-  pub small : length value ≤ 65536
+  pub small : length value ≤ PROP_VALUE_BYTES
   pub fit : props_fit (map.insert props name value) ≡ true
 
 -- entries that may stand behind others, one after the other: names may be removed as many as there are

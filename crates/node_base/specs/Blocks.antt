@@ -3,6 +3,7 @@ use Rattle.std.specs.Prelude.{◌≡◌, ℕ, ◌+◌, ◌-◌, ◌==◌, ◌&&�
 use Rattle.std.specs.FinMap as map
 use Rattle.node_base.specs.Numbers.{is_digit, number_of}
 use Rattle.node_base.specs.Props.{PropMap, is_prop_name, props_fit, fits_with}
+use Rattle.node_base.specs.declared.limits.TheConstants.{PROP_NAME_BYTES, PROP_VALUE_BYTES}
 use Rattle.node_base.specs.declared.prop_fault.PropFault.{PropFault}
 use Rattle.node_base.specs.declared.prop_fault.PropFault.TheVariants.{BadProps, TooLong, OutOfMemory}
 use Rattle.node_base.specs.declared.block_part.Part.{Part}
@@ -48,7 +49,7 @@ named false r name = if fits_with r.props name then Next (record r { part = Name
 -- a name fits the rule and comes once
 abbrev pub name_is : BlockReader → List ℕ → Step
 name_is r name =
-    if nat_lt 255 (length name)
+    if nat_lt PROP_NAME_BYTES (length name)
     then Refused TooLong
     else if is_prop_name name && is_new r name
     then named r.removes r name
@@ -58,7 +59,7 @@ name_is r name =
 abbrev pub value_at : BlockReader → Option (List ℕ) → List ℕ → Step
 value_at r None value = Refused BadProps
 value_at r (Some name) value =
-    if nat_lt 65536 (length value)
+    if nat_lt PROP_VALUE_BYTES (length value)
     then Refused TooLong
     else if props_fit (map.insert r.props name value)
     then Next (record r { part = ValueEnd; props = map.insert r.props name value; name = None; held = [] })
@@ -79,7 +80,7 @@ part_step KeyCount r b =
     if is_digit b
     then keep r b
     else if b == 10 && not (number_of r.held == 0)
-    then judged_count 255 (number_of r.held) r.left (go (Name (number_of r.held)) r)
+    then judged_count PROP_NAME_BYTES (number_of r.held) r.left (go (Name (number_of r.held)) r)
     else Refused BadProps
 part_step (Name n) r b =
     if nat_lt (length r.held + 1) n
@@ -92,7 +93,7 @@ part_step ValueCount r b =
     if is_digit b
     then keep r b
     else if b == 10 && not (length r.held == 0)
-    then judged_count 65536 (number_of r.held) r.left (if number_of r.held == 0 then value_is r [] else go (Value (number_of r.held)) r)
+    then judged_count PROP_VALUE_BYTES (number_of r.held) r.left (if number_of r.held == 0 then value_is r [] else go (Value (number_of r.held)) r)
     else Refused BadProps
 part_step (Value n) r b =
     if nat_lt (length r.held + 1) n

@@ -2,6 +2,7 @@
 use Rattle.std.specs.Fmt as fmt
 use Rattle.std.specs.Option.{option_and_then}
 use Rattle.std.specs.Prelude.{◌≡◌, ◌++◌, replicate, ℕ, ◌+◌, ◌*◌, ◌-◌, Bool, true, false, not, ◌&&◌, nat_le, nat_lt, List, [], ◌∷◌, Option, Some, None, if◌then◌else◌}
+use Rattle.node_base.specs.declared.limits.TheConstants.{REVISION}
 
 -- whether a byte is a decimal digit
 abbrev pub is_digit : ℕ → Bool
@@ -36,7 +37,7 @@ with_digit n b = if is_digit b && nat_lt (n * 10 + (b - 48)) 1844674407370955161
 
 -- the revision number that a value spells: at most 65,535
 abbrev pub rev_read : List ℕ → Option ℕ
-rev_read ds = option_and_then (λ n. if nat_le n 65535 then Some n else None) (decimal ds)
+rev_read ds = option_and_then (λ n. if nat_le n REVISION then Some n else None) (decimal ds)
 
 -- digits that spell a number: zeros, and then the number as it is written
 pub record SpellsNumber (n : ℕ) (ds : List ℕ) : Type 0 where

@@ -5,6 +5,7 @@ use Rattle.std.specs.List.{flat_map, slice_split, join_with_byte, list_all, list
 use Rattle.node_base.specs.Path.{Name, Path}
 use Rattle.node_base.specs.Names.{IsName, is_name}
 use Rattle.node_base.specs.Limits.{fits}
+use Rattle.node_base.specs.declared.limits.TheConstants.{NAME_BYTES, PATH_BYTES, PATH_NAMES}
 use Rattle.node_base.specs.declared.fault.PathFault.{PathFault}
 use Rattle.node_base.specs.declared.fault.PathFault.TheVariants.{TooLong, BadPath, OutOfMemory}
 
@@ -28,16 +29,16 @@ pub record Spells (p : Path) (bs : List ℕ) : Type 0 where
 
 -- whether a name is past 255 bytes
 abbrev pub is_long_name : Name → Bool
-is_long_name n = nat_lt 255 (length n)
+is_long_name n = nat_lt NAME_BYTES (length n)
 
 -- whether bytes are past 1,024 bytes, 64 names or 255 bytes of a name
 unfoldable pub is_past_limits : List ℕ → Bool
-is_past_limits bs = nat_lt 1024 (length bs) || nat_lt 64 (length (pieces bs)) || list_any is_long_name (pieces bs)
+is_past_limits bs = nat_lt PATH_BYTES (length bs) || nat_lt PATH_NAMES (length (pieces bs)) || list_any is_long_name (pieces bs)
 
 -- the path has 64 names and 1,024 bytes at most, and each of its names 255 bytes
 pub record IsSmall (p : Path) : Type 0 where
   pub fits : fits p ≡ true
-  pub names : All (λ n. length n ≤ 255) p
+  pub names : All (λ n. length n ≤ NAME_BYTES) p
 
 -- whether a path is one that is kept: of names, and within the limits
 unfoldable pub is_path : Path → Bool

@@ -7,6 +7,7 @@ use Rattle.std.specs.FinMap as map
 use Rattle.std.specs.Coded.{Coded}
 use Rattle.node_base.specs.Path.{Name, name_cmp, coded_name}
 use Rattle.node_base.specs.Numbers.{is_nil, all_bytes}
+use Rattle.node_base.specs.declared.limits.TheConstants.{PROPS, PROP_NAME_BYTES, PROP_VALUE_BYTES, SYNC_PROPS}
 use Rattle.node_base.specs.declared.prop_fault.PropFault.{PropFault}
 use Rattle.node_base.specs.declared.prop_fault.PropFault.TheVariants.{BadProps, TooLong, OutOfMemory}
 
@@ -27,7 +28,7 @@ is_prop_name name = not (is_nil name) && all_bytes is_prop_byte name && is_utf8 
 
 -- what bytes are as a property's name: first the limit, then the rule
 abbrev pub prop_name_read : List ℕ → Result Name PropFault
-prop_name_read bytes = if nat_lt 255 (length bytes) then Err TooLong else if is_prop_name bytes then Ok bytes else Err BadProps
+prop_name_read bytes = if nat_lt PROP_NAME_BYTES (length bytes) then Err TooLong else if is_prop_name bytes then Ok bytes else Err BadProps
 
 -- whether a name begins with svn:sync-
 abbrev pub is_sync : Name → Bool
@@ -47,7 +48,7 @@ copied_beside own copied = map.from_entries (map.entries (sync_part own) ++ map.
 
 -- at most 256 properties, and beside them at most 16 whose names begin with svn:sync-
 abbrev pub props_fit : PropMap → Bool
-props_fit m = nat_le (map.len (without_sync m)) 256 && nat_le (map.len (sync_part m)) 16
+props_fit m = nat_le (map.len (without_sync m)) PROPS && nat_le (map.len (sync_part m)) SYNC_PROPS
 
 -- whether the map stays within the limits with a value at the name
 abbrev pub fits_with : PropMap → Name → Bool
@@ -55,7 +56,7 @@ fits_with m name = props_fit (map.insert m name [])
 
 -- a map of properties: each name fits the rule and the limit, each value the limit, and all together the limits
 pub record IsProps (m : PropMap) : Type 0 where
-  pub each : (q : Name) → IfSome (map.get m q) (λ v. (is_prop_name q ≡ true) × (length q ≤ 255) × (length v ≤ 65536))
+  pub each : (q : Name) → IfSome (map.get m q) (λ v. (is_prop_name q ≡ true) × (length q ≤ PROP_NAME_BYTES) × (length v ≤ PROP_VALUE_BYTES))
   pub fit : props_fit m ≡ true
 
 -- the fault of a call is the one that is said, but for memory

@@ -8,9 +8,11 @@ ghost use Rattle.node_base.specs.Blocks.{StepIs, BlockIs, EndsHere, MayKeep, hel
 ghost use Rattle.node_base.specs.Blocks.{go, only, begins, name_is, value_is, begun, new_block};
 ghost use Rattle.node_base.specs.BlockKept.{kept_bytes, kept_after, waiting_bytes};
 ghost use Rattle.node_base.specs.declared.block_part.Part.TheVariants.{Tag, KeyCount, ValueCount, Ending};
+ghost use Rattle.node_base.specs.declared.limits.TheConstants.{PROP_NAME_BYTES};
 
 use crate::block_part::Part;
 use crate::bytes::Bytes;
+use crate::limits::{PROP_NAME_BYTES, PROP_VALUE_BYTES};
 use crate::{PropDelta, PropFault, PropName, PropValue, Props, RemovedNames};
 use std::alloc::{AllocError, Global};
 use std::mem;
@@ -154,7 +156,7 @@ impl BlockReader {
         if b != 10 {
             return Err(PropFault::BadProps);
         }
-        match count_of(self.held.as_slice(), 255) {
+        match count_of(self.held.as_slice(), PROP_NAME_BYTES as u32) {
             None => Err(PropFault::TooLong),
             Some(0) => Err(PropFault::BadProps),
             Some(n) => {
@@ -177,7 +179,7 @@ impl BlockReader {
         if b != 10 || self.held.len() == 0 {
             return Err(PropFault::BadProps);
         }
-        let Some(n) = count_of(self.held.as_slice(), 65536) else {
+        let Some(n) = count_of(self.held.as_slice(), PROP_VALUE_BYTES as u32) else {
             return Err(PropFault::TooLong);
         };
         if u64::from(n) + 1 >= self.left {
@@ -388,7 +390,7 @@ impl BlockReader {
     // How many bytes of a name that awaits its value it keeps.
     fn waiting(&self) -> usize
         ensures len { result ≡ waiting_bytes self.now.name }
-        ensures small { result ≤ 255 }
+        ensures small { result ≤ PROP_NAME_BYTES }
     {
         match &self.name {
             Some(name) => name.len(),

@@ -3,6 +3,7 @@ ghost use Rattle.std.specs.Prelude.{◌≡◌, ◌≤◌, length, OnOk};
 ghost use Rattle.std.specs.Io.KnownBytes.{Appends};
 ghost use Rattle.std.specs.Fmt.{decimal};
 ghost use Rattle.node_base.specs.BlockCanon.{counted, canon_property, canon_block};
+ghost use Rattle.node_base.specs.declared.limits.TheConstants.{PROP_VALUE_BYTES};
 
 use crate::{PropName, PropValue, Props};
 use itoa::Buffer;
@@ -31,7 +32,7 @@ fn write_property<W: Write>(out: &mut W, name: &PropName, value: &PropValue) -> 
 
 // How many digits a number has.
 fn decimal_len(n: usize) -> u64
-    requires { n ≤ 65536 }
+    requires { n ≤ PROP_VALUE_BYTES }
     ensures len { result ≡ length (decimal n) }
     ensures small { result ≤ 5 }
 {

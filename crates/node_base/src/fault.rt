@@ -2,6 +2,7 @@
 ghost use Rattle.std.specs.Prelude.{◌≡◌};
 ghost use Rattle.node_base.specs.declared.fault.PathFault.TheVariants.{OutOfMemory};
 
+use crate::texts;
 use std::alloc::{AllocError, AllocFailed};
 use thiserror::Error;
 
@@ -9,13 +10,13 @@ use thiserror::Error;
 #[derive(Clone, Copy, Debug, Error, PartialEq, Eq)]
 pub enum PathFault {
     /// Past a limit (8).
-    #[error("limit exceeded")]
+    #[error("{}", texts::TOO_LONG)]
     TooLong,
     /// Outside the rule for names (10).
-    #[error("bad path")]
+    #[error("{}", texts::BAD_PATH)]
     BadPath,
     /// Memory ran out (70).
-    #[error("out of memory")]
+    #[error("{}", texts::OUT_OF_MEMORY)]
     OutOfMemory,
 }
 

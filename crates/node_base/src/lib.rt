@@ -48,4 +48,5 @@ mod revision;
 mod shown;
 mod text;
 mod text_fault;
+pub mod texts;
 mod told_number;

@@ -26,6 +26,7 @@ pub struct NodeName {
 impl Model for NodeName {
     ghost use Rattle.std.specs.Prelude.{string_bytes};
     ghost use Rattle.node_base.specs.Path.{Name, coded_name};
+    ghost use Rattle.node_base.specs.declared.limits.TheConstants.{NAME_BYTES};
 
     ghost Value = { Name };
 
@@ -36,7 +37,7 @@ impl Model for NodeName {
     ghost use Rattle.std.specs.Prelude.{◌≡◌, ◌≤◌, length, true};
     ghost use Rattle.node_base.specs.Names.{is_name};
 
-    ghost invariant = { λ a. (length (string_bytes a.text) ≤ 255) × (is_name (string_bytes a.text) ≡ true) };
+    ghost invariant = { λ a. (length (string_bytes a.text) ≤ NAME_BYTES) × (is_name (string_bytes a.text) ≡ true) };
 }
 
 impl NodeName {
@@ -46,7 +47,7 @@ impl NodeName {
     pub fn parse(alloc: Global, bytes: &[u8]) -> Result<NodeName, PathFault>
         ensures read { Answers (name_read bytes.now) result }
         ensures name { IfOk result (λ n. IsName n) }
-        ensures taken { IsName bytes.now → length bytes.now ≤ 255 → Answers (Ok bytes.now) result }
+        ensures taken { IsName bytes.now → length bytes.now ≤ NAME_BYTES → Answers (Ok bytes.now) result }
     {
         if bytes.len() > NAME_BYTES {
             return Err(PathFault::TooLong);
@@ -63,7 +64,7 @@ impl NodeName {
     pub fn as_str(&self) -> &str
         ensures text { result.now ≡ self.now }
         ensures name { is_name self.now ≡ true }
-        ensures small { length self.now ≤ 255 }
+        ensures small { length self.now ≤ NAME_BYTES }
     {
         self.text.as_str()
     }
@@ -71,7 +72,7 @@ impl NodeName {
     /// How many bytes it has, 255 at most.
     pub fn len(&self) -> usize
         ensures len { result ≡ length self.now }
-        ensures small { result ≤ 255 }
+        ensures small { result ≤ NAME_BYTES }
     {
         self.text.len()
     }

@@ -106,7 +106,7 @@ impl NodePath {
     crate::proofs::ReadBack::weight_of_fits, crate::proofs::ReadBack::count_of_fits))]
     pub fn text_len(&self) -> usize
         ensures len { result ≡ length (path_text self.now) }
-        ensures small { result ≤ 1024 }
+        ensures small { result ≤ PATH_BYTES }
     {
         weight(self.names()).saturating_sub(1)
     }
@@ -145,7 +145,7 @@ impl NodePath {
     fn has_room_for(&self, name: &NodeName) -> bool
         ensures room { result ≡ fits (self.now ++ name.now ∷ []) }
         ensures name { is_name name.now ≡ true }
-        ensures small { length name.now ≤ 255 }
+        ensures small { length name.now ≤ NAME_BYTES }
     {
         let above = self.names();
         let len = name.as_str().len();
@@ -274,8 +274,8 @@ fn is_past_limits(bytes: &[u8]) -> bool
 
 /// Whether there are more than 64 names.
 fn has_many_names(bytes: &[u8]) -> bool
-    requires { length bytes.now ≤ 1024 }
-    ensures { result ≡ nat_lt 64 (length (pieces bytes.now)) }
+    requires { length bytes.now ≤ PATH_BYTES }
+    ensures { result ≡ nat_lt PATH_NAMES (length (pieces bytes.now)) }
 {
     // (so few bytes have no more names: they needn't be counted)
     bytes.len() >= PATH_NAMES && Pieces::of(bytes).count() > PATH_NAMES
@@ -299,7 +299,7 @@ fn has_long_name(bytes: &[u8]) -> bool
 
 /// The bytes of the names, and one more for each.
 fn weight(names: &[NodeName]) -> usize
-    requires { length names.now ≤ 64 }
+    requires { length names.now ≤ PATH_NAMES }
     ensures weight { result ≡ weight names.now }
     ensures small { result ≤ 16384 }
 {

@@ -2,6 +2,7 @@
 ghost use Rattle.std.specs.Prelude.{◌≡◌};
 ghost use Rattle.node_base.specs.declared.prop_fault.PropFault.TheVariants.{OutOfMemory};
 
+use crate::texts;
 use std::alloc::{AllocError, AllocFailed};
 use thiserror::Error;
 
@@ -9,13 +10,13 @@ use thiserror::Error;
 #[derive(Clone, Copy, Debug, PartialEq, Eq, Error)]
 pub enum PropFault {
     /// A name outside the rule, or bytes that are no property block (5).
-    #[error("bad property block")]
+    #[error("{}", texts::BAD_PROPS)]
     BadProps,
     /// A name, a value or a count of properties past its limit (8).
-    #[error("limit exceeded")]
+    #[error("{}", texts::TOO_LONG)]
     TooLong,
     /// No memory (70).
-    #[error("out of memory")]
+    #[error("{}", texts::OUT_OF_MEMORY)]
     OutOfMemory,
 }
 

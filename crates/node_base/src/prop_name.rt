@@ -23,6 +23,7 @@ pub struct PropName {
 impl Model for PropName {
     ghost use Rattle.std.specs.Prelude.{◌≡◌, ◌≤◌, length, true, string_bytes};
     ghost use Rattle.node_base.specs.Path.{Name, coded_name};
+    ghost use Rattle.node_base.specs.declared.limits.TheConstants.{PROP_NAME_BYTES};
 
     ghost Value = { Name };
 
@@ -32,7 +33,7 @@ impl Model for PropName {
 
     ghost use Rattle.node_base.specs.Props.{is_prop_name};
 
-    ghost invariant = { λ a. (length (string_bytes a.text) ≤ 255) × (is_prop_name (string_bytes a.text) ≡ true) };
+    ghost invariant = { λ a. (length (string_bytes a.text) ≤ PROP_NAME_BYTES) × (is_prop_name (string_bytes a.text) ≡ true) };
 }
 
 /// Whether no byte is a control character of ASCII.
@@ -94,7 +95,7 @@ impl PropName {
     /// How many bytes it has, 1 to 255.
     pub fn len(&self) -> usize
         ensures len { result ≡ length self.now }
-        ensures small { result ≤ 255 }
+        ensures small { result ≤ PROP_NAME_BYTES }
         ensures rule { is_prop_name self.now ≡ true }
     {
         self.text.len()

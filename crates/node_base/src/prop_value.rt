@@ -16,6 +16,7 @@ pub struct PropValue {
 impl Model for PropValue {
     ghost use Rattle.std.specs.Prelude.{List, ℕ, ◌≤◌, length};
     ghost use Rattle.std.specs.Coded.{coded_list, coded_ℕ};
+    ghost use Rattle.node_base.specs.declared.limits.TheConstants.{PROP_VALUE_BYTES};
 
     ghost Value = { List ℕ };
 
@@ -23,15 +24,15 @@ impl Model for PropValue {
 
     ghost view = { λ a. a.bytes.items };
 
-    ghost invariant = { λ a. length a.bytes.items ≤ 65536 };
+    ghost invariant = { λ a. length a.bytes.items ≤ PROP_VALUE_BYTES };
 }
 
 impl PropValue {
     /// The value of these bytes. TooLong past 65,536 bytes.
     pub fn new(bytes: Vec<u8>) -> Result<PropValue, PropFault>
         ensures value { IfOk result (λ v. v ≡ bytes.items) }
-        ensures small { OnOk result (length bytes.items ≤ 65536) }
-        ensures fault { IfErr result (λ e. (e ≡ TooLong) × (65536 < length bytes.items)) }
+        ensures small { OnOk result (length bytes.items ≤ PROP_VALUE_BYTES) }
+        ensures fault { IfErr result (λ e. (e ≡ TooLong) × (PROP_VALUE_BYTES < length bytes.items)) }
     {
         if bytes.len() > PROP_VALUE_BYTES {
             return Err(PropFault::TooLong);
@@ -58,7 +59,7 @@ impl PropValue {
     /// How many bytes it has.
     pub fn len(&self) -> usize
         ensures len { result ≡ length self.now }
-        ensures small { result ≤ 65536 }
+        ensures small { result ≤ PROP_VALUE_BYTES }
     {
         self.bytes.len()
     }

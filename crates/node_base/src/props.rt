@@ -190,7 +190,7 @@ impl Props {
     // Whether one name more that doesn't begin so is within its limit. Names are counted only where they aren't few
     // anyway, so that reading a block counts them some thirty times at most, however many come.
     fn has_room_for_other(&self) -> bool
-        ensures { result ≡ nat_lt (map.len (without_sync self.now)) 256 }
+        ensures { result ≡ nat_lt (map.len (without_sync self.now)) PROPS }
     {
         self.len() < PROPS || self.other_len() < PROPS
     }

@@ -2,6 +2,7 @@
 ghost use Rattle.std.specs.Prelude.{◌≡◌, ◌≤◌, Some};
 ghost use Rattle.std.specs.Fmt as fmt;
 ghost use Rattle.node_base.specs.Numbers.{rev_read};
+ghost use Rattle.node_base.specs.declared.limits.TheConstants.{REVISION};
 
 use crate::read_decimal;
 use std::fmt;
@@ -51,7 +52,7 @@ impl RevNo {
     /// Its number.
     pub fn get(self) -> u16
         ensures number { result ≡ self }
-        ensures small { result ≤ 65535 }
+        ensures small { result ≤ REVISION }
     {
         self.number
     }
@@ -59,7 +60,7 @@ impl RevNo {
     /// Its number as an index.
     pub fn index(self) -> usize
         ensures number { result ≡ self }
-        ensures small { result ≤ 65535 }
+        ensures small { result ≤ REVISION }
     {
         usize::from(self.number)
     }

@@ -27,6 +27,7 @@ impl Model for Text {
     ghost use Rattle.std.specs.Coded.{coded_list, coded_ℕ};
     ghost use Rattle.std.specs.Arc.{arc_value};
     ghost use Rattle.md5.specs.Md5.{md5};
+    ghost use Rattle.node_base.specs.declared.limits.TheConstants.{TEXT_BYTES};
 
     ghost Value = { List ℕ };
 
@@ -34,7 +35,7 @@ impl Model for Text {
 
     ghost view = { λ a. (arc_value a.body).bytes.items };
 
-    ghost invariant = { λ a. (length (arc_value a.body).bytes.items ≤ 1048576)
+    ghost invariant = { λ a. (length (arc_value a.body).bytes.items ≤ TEXT_BYTES)
         × IfSome (arc_value a.body).sum (λ s. s ≡ md5 (arc_value a.body).bytes.items) };
 }
 
@@ -51,7 +52,7 @@ impl Text {
     /// A text of these bytes. TooLong past 1,048,576 bytes.
     pub fn new(alloc: Global, bytes: Vec<u8>) -> Result<Text, TextFault>
         ensures text { IfOk result (λ t. t ≡ bytes.items) }
-        ensures small { OnOk result (length bytes.items ≤ 1048576) }
+        ensures small { OnOk result (length bytes.items ≤ TEXT_BYTES) }
         ensures fault { IfErr result (λ e. e ≡ text_fault bytes.items) }
     {
         if !is_within(bytes.len()) {
@@ -65,7 +66,7 @@ impl Text {
     pub fn with_sum(alloc: Global, bytes: Vec<u8>, sum: [u8; 16]) -> Result<Text, TextFault>
         requires { sum ≡ md5 bytes.items }
         ensures text { IfOk result (λ t. t ≡ bytes.items) }
-        ensures small { OnOk result (length bytes.items ≤ 1048576) }
+        ensures small { OnOk result (length bytes.items ≤ TEXT_BYTES) }
         ensures fault { IfErr result (λ e. e ≡ text_fault bytes.items) }
     {
         if !is_within(bytes.len()) {
@@ -86,7 +87,7 @@ impl Text {
     /// How many bytes it has, at most 1,048,576.
     pub fn len(&self) -> usize
         ensures len { result ≡ length self.now }
-        ensures small { length self.now ≤ 1048576 }
+        ensures small { length self.now ≤ TEXT_BYTES }
     {
         self.body.bytes.len()
     }
@@ -109,7 +110,7 @@ impl Text {
     /// copied only where they have another owner.
     pub fn append(&mut self, alloc: Global, piece: &[u8]) -> Result<(), TextFault>
         ensures ok { OnOk result (self.new ≡ self.old ++ piece.now) }
-        ensures small { OnOk result (length (self.old ++ piece.now) ≤ 1048576) }
+        ensures small { OnOk result (length (self.old ++ piece.now) ≤ TEXT_BYTES) }
         ensures fault { IfErr result (λ e. e ≡ text_fault (self.old ++ piece.now)) }
         ensures err { OnErr result (self.new ≡ self.old) }
     {
@@ -121,7 +122,7 @@ impl Text {
 
     // The same where the limit isn't passed.
     fn grow(&mut self, alloc: Global, piece: &[u8]) -> Result<(), AllocError>
-        requires { length (self.old ++ piece.now) ≤ 1048576 }
+        requires { length (self.old ++ piece.now) ≤ TEXT_BYTES }
         ensures ok { OnOk result (self.new ≡ self.old ++ piece.now) }
         ensures err { OnErr result (self.new ≡ self.old) }
     {
@@ -147,7 +148,7 @@ impl Text {
 
 // Whether so many bytes may be a text.
 fn is_within(count: usize) -> bool
-    ensures { result ≡ nat_le count 1048576 }
+    ensures { result ≡ nat_le count TEXT_BYTES }
 {
     count as u64 <= TEXT_BYTES
 }

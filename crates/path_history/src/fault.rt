@@ -2,6 +2,7 @@
 ghost use Rattle.std.specs.Prelude.{◌≡◌};
 ghost use Rattle.path_history.specs.declared.fault.HistoryFault.TheVariants.{OutOfMemory};
 
+use node_base::texts;
 use std::alloc::{AllocError, AllocFailed};
 use thiserror::Error;
 
@@ -10,10 +11,10 @@ use thiserror::Error;
 pub enum HistoryFault {
     /// A path of it is past the limits of paths. It can't be in a repository, where something stands at each place of a
     /// node's history.
-    #[error("limit exceeded")]
+    #[error("{}", texts::TOO_LONG)]
     TooLong,
     /// A growth was refused.
-    #[error("out of memory")]
+    #[error("{}", texts::OUT_OF_MEMORY)]
     OutOfMemory,
 }
 

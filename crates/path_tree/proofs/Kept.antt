@@ -16,6 +16,7 @@ use Rattle.node_base.specs.NodeEdits.{with_prop, with_piece}
 use Rattle.node_base.specs.Tree.{PathMap, edited, marked, changed_at, grafted, with_number, with_given, alone, new_dir}
 use Rattle.node_base.specs.declared.node.Node.{Node}
 use Rattle.node_base.specs.declared.fault.TreeFault.TheVariants.{TooLong}
+use Rattle.node_base.specs.declared.limits.TheConstants.{TEXT_BYTES}
 use Rattle.node_base.proofs.PathLemmas.{path_of_same, append_of_rest}
 use Rattle.node_base.proofs.PropLemmas.{empty_is_props, props_with, props_without, fits_any_value}
 use Rattle.node_base.proofs.ReadBack.{kept_of_test, test_of_kept}
@@ -70,13 +71,13 @@ nodes-edited f t g keeps h = record {
 pub nodes-marked : (f : Path → Option Node) (p : Path) (n : ℕ) → HasNodes f → HasNodes (marked f p n)
 nodes-marked f p n h = nodes-edited f (λ q. is_front q p) (with_number n) (λ q x _ _ k. record { props = k.props; text = k.text }) h
 
-given : (text : Option (List ℕ)) (props : Option PropMap) (x : Node) → IfSome text (λ t. length t ≤ 1048576) → IfSome props IsProps → IsNode x → IsNode (with_given text props x)
+given : (text : Option (List ℕ)) (props : Option PropMap) (x : Node) → IfSome text (λ t. length t ≤ TEXT_BYTES) → IfSome props IsProps → IsNode x → IsNode (with_given text props x)
 given None None x t p k = record { props = k.props; text = k.text }
 given None (Some m) x t p k = record { props = p; text = k.text }
 given (Some s) None x t p k = record { props = k.props; text = t }
 given (Some s) (Some m) x t p k = record { props = p; text = t }
 
-pub nodes-changed : (f : Path → Option Node) (p : Path) (text : Option (List ℕ)) (props : Option PropMap) → IfSome text (λ t. length t ≤ 1048576) → IfSome props IsProps → HasNodes f → HasNodes (changed_at f p (with_given text props))
+pub nodes-changed : (f : Path → Option Node) (p : Path) (text : Option (List ℕ)) (props : Option PropMap) → IfSome text (λ t. length t ≤ TEXT_BYTES) → IfSome props IsProps → HasNodes f → HasNodes (changed_at f p (with_given text props))
 nodes-changed f p text props t m h = nodes-edited f (same_path p) (with_given text props) (λ q x _ _ k. given text props x t m k) h
 
 pub nodes-grafted : (f g : Path → Option Node) (at : Path) → HasNodes f → ((r : Path) → IsSome (g r) → is_path (at ++ r) ≡ true) → ((r : Path) → IfSome (g r) IsNode) → HasNodes (grafted f at g)
@@ -125,10 +126,10 @@ nodes-prop f p name (Some v) rule short small none h =
     let room : not (fits_with x.props name) ≡ false = ap (is_one_too_many name) (sym here) ∙ test_fails (is_one_too_many name (f p)) TooLong (second_none (change_fault f p) _ none) in
     record { props = props_with x.props name v k.props rule short small (fits_any_value x.props name v [] ∙ not_false _ room); text = k.text }) h
 
-at_most : (a b c : ℕ) → c ≡ a + b → nat_lt 1048576 (a + b) ≡ false → c ≤ 1048576
+at_most : (a b c : ℕ) → c ≡ a + b → nat_lt TEXT_BYTES (a + b) ≡ false → c ≤ TEXT_BYTES
 at_most a b c e h = grind (arith, nat_tests)
 
-longer : (piece : List ℕ) (o : Option (List ℕ)) → option_map_or (λ t. nat_lt 1048576 (length t + length piece)) o false ≡ false → IfSome (option_map (λ t. t ++ piece) o) (λ t. length t ≤ 1048576)
+longer : (piece : List ℕ) (o : Option (List ℕ)) → option_map_or (λ t. nat_lt TEXT_BYTES (length t + length piece)) o false ≡ false → IfSome (option_map (λ t. t ++ piece) o) (λ t. length t ≤ TEXT_BYTES)
 longer piece None e = tt
 longer piece (Some t) e = at_most (length t) (length piece) (length (t ++ piece)) (length-append t piece) e
 

@@ -6,6 +6,7 @@ use Rattle.node_base.specs.Props.{fits_with}
 use Rattle.node_base.specs.declared.node.Node.{Node}
 use Rattle.node_base.specs.declared.fault.TreeFault.{TreeFault}
 use Rattle.node_base.specs.declared.fault.TreeFault.TheVariants.{TooLong}
+use Rattle.node_base.specs.declared.limits.TheConstants.{TEXT_BYTES}
 use Rattle.path_tree.specs.Calls.{fault_if, change_fault, text_fault}
 
 -- whether a value at the name would take a node's properties past their limits
@@ -18,7 +19,7 @@ prop_fault f p name puts = option_or (change_fault f p) (fault_if (puts && is_on
 
 -- whether so many bytes more would take a file's text past 1,048,576
 abbrev pub is_too_long_with : ℕ → Option Node → Bool
-is_too_long_with n = λ o. option_map_or (λ x. option_map_or (λ t. nat_lt 1048576 (length t + n)) x.text false) o false
+is_too_long_with n = λ o. option_map_or (λ x. option_map_or (λ t. nat_lt TEXT_BYTES (length t + n)) x.text false) o false
 
 -- a file that is there, and then the limit
 abbrev pub piece_fault : (Path → Option Node) → Path → List ℕ → Option TreeFault

@@ -4,6 +4,7 @@ use Rattle.std.specs.FinMap.{entries}
 use Rattle.node_base.specs.Path.{Name, Path}
 use Rattle.node_base.specs.Limits.{weight}
 use Rattle.node_base.specs.Tree.{PathMap}
+use Rattle.node_base.specs.declared.limits.TheConstants.{PATH_BYTES, PATH_NAMES}
 use Rattle.path_tree.specs.declared.reach.Reach.{Reach}
 use Rattle.path_tree.specs.Joined.{behind, below}
 
@@ -39,4 +40,4 @@ behind_name n r = record { names = held (r.names + 1); bytes = held (r.bytes + (
 
 -- whether a path that reaches so far is past 64 names or 1,024 bytes behind so many names of such a weight
 abbrev pub past : ℕ → ℕ → Reach → Bool
-past names bytes r = nat_lt 64 (names + r.names) || nat_lt 1025 (bytes + r.bytes)
+past names bytes r = nat_lt PATH_NAMES (names + r.names) || nat_lt (PATH_BYTES + 1) (bytes + r.bytes)

@@ -18,12 +18,13 @@ ghost use Rattle.path_tree.specs.Visited.{texts};
 
 use crate::Entry;
 use crate::edit::{Edit, copy_value, share_props, share_text};
-use crate::reach::Reach;
+use crate::reach::{Reach, WEIGHT};
 use crate::row::{
     Row, Twig, alter_in, child_of, list_row, put_in, reach_in, shared, visit_row, with_branch,
     without,
 };
 use crate::visit::Visitor;
+use node_base::limits::PATH_NAMES;
 use node_base::{Node, NodeName, PropName, PropValue, Props, RevNo, Text, TreeFault};
 use std::alloc::{AllocError, Global};
 use std::marker::Model;
@@ -167,7 +168,7 @@ impl Branch {
         match path {
             [] => self.exceeds(names, bytes),
             [first, rest @ ..] => {
-                if names > 64 || bytes > 1025 {
+                if names > PATH_NAMES || bytes > WEIGHT {
                     return true;
                 }
                 self.exceeds_behind(rest, names + 1, bytes + first.len() + 1)

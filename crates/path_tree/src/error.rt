@@ -4,7 +4,7 @@ ghost use Rattle.node_base.specs.Refusals.{refusal_text};
 ghost use Rattle.path_tree.specs.Calls.{error_number, error_refusal};
 ghost use Rattle.path_tree.specs.declared.error.TreeError.TheVariants.{OutOfMemory};
 
-use node_base::{Refusal, TreeFault};
+use node_base::{Refusal, TreeFault, texts};
 use std::alloc::AllocError;
 use std::error::Error;
 use std::fmt;
@@ -43,7 +43,7 @@ impl fmt::Display for TreeError {
     fn fmt<W: fmt::Write>(&self, f: &mut fmt::Formatter<W>) -> fmt::Result {
         match self {
             TreeError::Fault(fault) => write!(f, "{fault}"),
-            TreeError::OutOfMemory => f.write_str("out of memory"),
+            TreeError::OutOfMemory => f.write_str(texts::OUT_OF_MEMORY),
         }
     }
 }

@@ -4,6 +4,7 @@ ghost use Rattle.std.specs.List.{AllByRecursion};
 ghost use Rattle.node_base.specs.PathText.{is_path};
 ghost use Rattle.node_base.specs.Props.{IsProps, is_prop_name};
 ghost use Rattle.node_base.specs.Tree.{IsDirAt, base};
+ghost use Rattle.node_base.specs.declared.limits.TheConstants.{PROP_NAME_BYTES, PROP_VALUE_BYTES, TEXT_BYTES};
 ghost use Rattle.path_tree.specs.Nodes.{IsNode, IsSmallTree};
 
 use crate::Tree;
@@ -27,7 +28,7 @@ pub fn props_limits(props: &Option<Props>)
 
 /// A text that is given has 1,048,576 bytes at most.
 pub fn text_limits(text: &Option<Text>)
-    ensures { IfSome text.now (λ t. length t ≤ 1048576) }
+    ensures { IfSome text.now (λ t. length t ≤ TEXT_BYTES) }
 {
     if let Some(text) = text {
         text.len();
@@ -45,14 +46,14 @@ pub fn node_limits(node: &Node)
 /// The name of a property is one by the rule, of 255 bytes at most.
 pub fn name_limits(name: &PropName)
     ensures rule { is_prop_name name.now ≡ true }
-    ensures small { length name.now ≤ 255 }
+    ensures small { length name.now ≤ PROP_NAME_BYTES }
 {
     name.len();
 }
 
 /// A value that is given has 65,536 bytes at most.
 pub fn value_limits(value: &Option<PropValue>)
-    ensures { IfSome value.now (λ v. length v ≤ 65536) }
+    ensures { IfSome value.now (λ v. length v ≤ PROP_VALUE_BYTES) }
 {
     if let Some(value) = value {
         value.len();

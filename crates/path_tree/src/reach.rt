@@ -3,6 +3,10 @@ ghost use Rattle.std.specs.Prelude.{◌≡◌};
 ghost use Rattle.path_tree.specs.Reach.{behind_name, either, nowhere, past};
 
 use node_base::NodeName;
+use node_base::limits::{PATH_BYTES, PATH_NAMES};
+
+/// The greatest weight of a path: its text has a slash less than names.
+pub const WEIGHT: usize = PATH_BYTES + 1;
 
 /// The most names of a path, and the most bytes with one more for each name. A count past the greatest `u16` stands
 /// there.
@@ -44,7 +48,7 @@ impl Reach {
     pub fn exceeds(self, names: usize, bytes: usize) -> bool
         ensures { result ≡ past names bytes self }
     {
-        names.saturating_add(self.names as usize) > 64
-            || bytes.saturating_add(self.bytes as usize) > 1025
+        names.saturating_add(self.names as usize) > PATH_NAMES
+            || bytes.saturating_add(self.bytes as usize) > WEIGHT
     }
 }

@@ -16,7 +16,6 @@ ghost use Rattle.browse_wire.specs.Urls.{Url};
 ghost use Rattle.ra_browse.specs.Answers.{behind, is_answered, moved, unanswered};
 ghost use Rattle.ra_browse.specs.Tellings.{place_as, Answers, Tells, PortStays};
 
-use crate::ask::{props_asked, tree_asked};
 use crate::denial::Denial;
 use crate::dir::get_dir;
 use crate::file::{Wanted, get_file};
@@ -34,7 +33,7 @@ use browse_wire::url::SessionUrl;
 use node_base::{NodeKind, NodeName, NodePath, PropName};
 use path_tree::Tree;
 use ra_item::item::Item;
-use ra_serve::{RepoPort, ServeFault};
+use ra_serve::{RepoPort, ServeFault, props_asked, tree_asked};
 use ra_wire::command::Command;
 use ra_wire::reply_writer::{
     write_authorised, write_kind, write_latest, write_proplist, write_value,

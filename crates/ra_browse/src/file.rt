@@ -10,25 +10,21 @@ ghost use Rattle.ra_item.specs.Items.{spell, Number};
 ghost use Rattle.ra_wire.specs.Commands.{GetFile};
 ghost use Rattle.ra_wire.specs.Replies.{answer_of, properties, string};
 ghost use Rattle.browse_wire.specs.Asks.{Plain};
-ghost use Rattle.ra_serve.specs.Answers.{strings, text_bytes, text_wanted};
 ghost use Rattle.ra_browse.specs.Answers.{file_found, file_told, file_with, props_told};
 ghost use Rattle.ra_browse.specs.Tellings.{made_as, place_as, Tells, PortStays};
 
 use crate::denial::Denial;
 use crate::look::{Seen, see};
-use crate::pieces::{write_end, write_name, write_props};
+use crate::pieces::write_props;
 use crate::told::{deny, tell};
 use browse_wire::url::SessionUrl;
 use node_base::{Node, NodePath, Text};
 use ra_item::writer::{write_close, write_number, write_open, write_text};
-use ra_serve::{RepoPort, ServeFault};
-use ra_wire::reply_writer::write_done;
+use ra_serve::{RepoPort, ServeFault, hex_of, write_wanted};
+use ra_wire::pieces::{write_end, write_name};
 use std::alloc::Global;
 use std::io;
 use std::io::Write;
-
-// How long a string may be in which a text is sent.
-const PIECE: usize = 65_536;
 
 /// What of a node is wanted.
 #[derive(Clone, Copy, Drop)]
@@ -134,47 +130,4 @@ fn write_sum<W: Write>(out: &mut W, sum: &[u8]) -> io::Result<()>
     write_open(out)?;
     write_text(out, sum)?;
     write_close(out)
-}
-
-// A text, where it is wanted.
-fn write_wanted<W: Write>(out: &mut W, text: &[u8], wanted: bool) -> io::Result<()>
-    ensures { OnOk result (Appends (W.contents out.old) (W.contents out.new) (text_wanted wanted text.now)) }
-{
-    if wanted {
-        write_contents(out, text)
-    } else {
-        Ok(())
-    }
-}
-
-// A sum in 32 hexadecimal digits, in lower case.
-fn hex_of(sum: [u8; 16]) -> [u8; 32]
-    ensures { result ≡ encode_lower sum }
-{
-    let mut digits = [0; 32];
-    let written = hex::encode_to_slice(sum.as_slice(), &mut digits);
-    written.unwrap();
-    digits
-}
-
-// A text in its pieces, then an empty string, and that it is done.
-fn write_contents<W: Write>(out: &mut W, text: &[u8]) -> io::Result<()>
-    ensures { OnOk result (Appends (W.contents out.old) (W.contents out.new) (text_bytes text.now)) }
-{
-    write_pieces(out, text)?;
-    write_text(out, b"")?;
-    write_done(out)
-}
-
-// A text in strings.
-fn write_pieces<W: Write>(out: &mut W, text: &[u8]) -> io::Result<()>
-    ensures { OnOk result (Appends (W.contents out.old) (W.contents out.new) (strings text.now)) }
-{
-    let mut rest = text;
-    while rest.len() > 0 {
-        let (part, behind) = rest.split_at(rest.len().min(PIECE));
-        write_text(out, part)?;
-        rest = behind;
-    }
-    Ok(())
 }

@@ -6,14 +6,11 @@
 //! `specs/Answers` has what each command is denied and told.
 #![tactic(auto)]
 
-pub use ask::tree_asked;
 pub use denial::Denial;
-pub use pieces::{write_end, write_name, write_none};
 pub use stop::{Stop, stopped};
 pub use told::{deny, tell, write_denied};
 
 pub mod answer;
-mod ask;
 mod denial;
 mod dir;
 mod file;

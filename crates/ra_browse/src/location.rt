@@ -14,7 +14,6 @@ ghost use Rattle.ra_browse.specs.Histories.{newer, newest, places_told};
 ghost use Rattle.ra_browse.specs.Answers.{no_revision, place_denied, stood_denied, locations_denied};
 ghost use Rattle.ra_browse.specs.Tellings.{place_as, Decides, Denies, Finds, PortStays, Tells, IsSought, TellsLocations};
 
-use crate::ask::{revision, tree_asked};
 use crate::denial::Denial;
 use crate::stop::{Stop, stopped};
 use crate::told::tell_behind_last;
@@ -25,7 +24,7 @@ use node_base::{NodePath, RevNo};
 use path_history::{HistoryFault, Place, SetRow, joined};
 use path_tree::Tree;
 use ra_history::{SetsStop, locations_of, sets_up_to};
-use ra_serve::{RepoPort, ServeFault};
+use ra_serve::{RepoPort, ServeFault, revision, tree_asked};
 use ra_wire::reply_writer::write_done;
 use std::alloc::Global;
 use std::io;

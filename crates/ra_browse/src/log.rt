@@ -17,7 +17,6 @@ ghost use Rattle.ra_browse.specs.Histories.{newer, newest_logged, range_of, rang
 ghost use Rattle.ra_browse.specs.Answers.{no_revision, paths_denied, logged_denied, log_denied};
 ghost use Rattle.ra_browse.specs.Tellings.{place_as, Comes, Decides, Finds, PortStays, Tells, AreRows, IsLogSought, TellsLogged};
 
-use crate::ask::asked;
 use crate::denial::Denial;
 use crate::location::{newer, place_in, shared};
 use crate::stop::{Stop, stopped};
@@ -30,7 +29,7 @@ use path_history::{HistoryFault, Place, SetRow};
 use path_tree::Tree;
 use ra_history::{LogRange, SetsStop, props_up_to, revisions_told, trees_up_to};
 use ra_log::{LogRows, write_entries};
-use ra_serve::{PortFault, RepoPort, ServeFault};
+use ra_serve::{PortFault, RepoPort, ServeFault, asked};
 use ra_wire::reply_writer::write_done;
 use std::alloc::Global;
 use std::io::{BufWriter, Write};

@@ -9,12 +9,11 @@ ghost use Rattle.ra_serve.specs.Ports.{tree_of};
 ghost use Rattle.ra_browse.specs.Answers.{no_revision, made_for};
 ghost use Rattle.ra_browse.specs.Tellings.{made_as, Finds, PortStays, IsSeen};
 
-use crate::ask::tree_asked;
 use crate::made::{Made, made_at};
 use crate::stop::{Stop, stopped};
 use node_base::{Node, NodeName, NodePath, RevNo};
 use path_tree::Tree;
-use ra_serve::RepoPort;
+use ra_serve::{RepoPort, tree_asked};
 use std::alloc::{AllocError, Global};
 use uuid::Uuid;
 

@@ -1,71 +1,25 @@
-//! Pieces of answers: names with brackets, strings that may be missing, properties, texts.
+//! The properties of a node as they are told, with what is told beside them.
 //!
 //! Each `Err` is the writer's own; then some of the bytes may have been written.
 
-ghost use Rattle.std.specs.Prelude.{◌≡◌, ◌++◌, ◌∷◌, [], map, true, OnOk};
+ghost use Rattle.std.specs.Prelude.{map, true, OnOk};
 ghost use Rattle.std.specs.Option.{option_map};
 ghost use Rattle.std.specs.Fmt.{decimal};
 ghost use Rattle.std.specs.Io.KnownBytes.{Appends};
 ghost use Rattle.uuid.specs.Text.{hyphenated_text, lower};
 ghost use Rattle.ra_item.specs.Items.{spell, spell_all, row};
-ghost use Rattle.ra_wire.specs.Replies.{before, behind, list, property, properties};
+ghost use Rattle.ra_wire.specs.Replies.{property, properties};
 ghost use Rattle.ra_browse.specs.Answers.{perhaps, entry_props, props_told};
 ghost use Rattle.ra_browse.specs.Tellings.{made_as};
 
 use crate::made::Made;
 use itoa::Buffer;
-use node_base::{Node, PropName, PropValue};
-use ra_item::writer::{write_close, write_open, write_text, write_word};
+use node_base::Node;
+use ra_item::writer::{write_close, write_open};
+use ra_wire::pieces::{write_entries, write_none, write_property};
 use std::io;
 use std::io::Write;
 use uuid::Uuid;
-
-/// What stands in front of an answer's content.
-pub fn write_name<W: Write>(out: &mut W, name: &[u8]) -> io::Result<()>
-    ensures { OnOk result (Appends (W.contents out.old) (W.contents out.new) (before name.now)) }
-{
-    write_open(out)?;
-    write_word(out, name)?;
-    write_open(out)
-}
-
-/// What stands behind it.
-pub fn write_end<W: Write>(out: &mut W) -> io::Result<()>
-    ensures { OnOk result (Appends (W.contents out.old) (W.contents out.new) behind) }
-{
-    write_close(out)?;
-    write_close(out)
-}
-
-/// Brackets without anything.
-pub fn write_none<W: Write>(out: &mut W) -> io::Result<()>
-    ensures { OnOk result (Appends (W.contents out.old) (W.contents out.new) (spell (list []))) }
-{
-    write_open(out)?;
-    write_close(out)
-}
-
-// A property.
-fn write_property<W: Write>(out: &mut W, name: &[u8], found: &[u8]) -> io::Result<()>
-    ensures { OnOk result (Appends (W.contents out.old) (W.contents out.new) (spell (property (name.now, found.now)))) }
-{
-    write_open(out)?;
-    write_text(out, name)?;
-    write_text(out, found)?;
-    write_close(out)
-}
-
-// Properties one after another.
-fn write_own<W: Write>(out: &mut W, entries: &[(PropName, PropValue)]) -> io::Result<()>
-    ensures { OnOk result (Appends (W.contents out.old) (W.contents out.new)
-        (spell_all (row (map property entries.now)))) }
-{
-    let Some((first, others)) = entries.split_first() else {
-        return Ok(());
-    };
-    write_property(out, first.0.as_bytes(), first.1.as_slice())?;
-    write_own(out, others)
-}
 
 // A property that may be missing.
 fn write_perhaps<W: Write>(out: &mut W, name: &[u8], value: &Option<Vec<u8>>) -> io::Result<()>
@@ -139,7 +93,7 @@ fn write_wanted<W: Write>(out: &mut W, node: &Node, made: &Made, identity: &Uuid
         (spell (properties (props_told true (hyphenated_text lower identity.now) node.now (made_as made.now))))) }
 {
     write_open(out)?;
-    write_own(out, node.props.entries())?;
+    write_entries(out, node.props.entries())?;
     write_entry(out, node, made, identity)?;
     write_close(out)
 }

@@ -12,11 +12,11 @@ ghost use Rattle.browse_wire.specs.Told.{end_item};
 ghost use Rattle.ra_browse.specs.Tellings.{TellsBehind, TellsStop};
 
 use crate::denial::Denial;
-use crate::pieces::{write_end, write_name};
 use crate::stop::Stop;
 use browse_wire::told::write_last;
 use ra_item::writer::{write_close, write_number, write_open, write_text};
 use ra_serve::{PortFault, ServeFault};
+use ra_wire::pieces::{write_end, write_name};
 use ra_wire::reply_writer::write_failure;
 use std::io;
 use std::io::Write;

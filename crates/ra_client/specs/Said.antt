@@ -5,6 +5,7 @@ use Rattle.std.specs.List.{list_any}
 use Rattle.std.specs.Str.{bytes_eq}
 use Rattle.uuid.specs.Text.{parsed_hyphenated}
 use Rattle.node_base.specs.Props.{PropMap}
+use Rattle.node_base.specs.declared.limits.TheConstants.{REVISION}
 use Rattle.ra_item.specs.Items.{Item, Items}
 use Rattle.ra_edit.specs.declared.edit_fault.EditFault.TheVariants as edit
 use Rattle.ra_wire.specs.Params.{parts_in, word_in, list_in, number_in}
@@ -55,7 +56,7 @@ authorised_said = said unasked_in
 
 -- a revision's number
 abbrev pub revision_of : ℕ → Option ℕ
-revision_of n = if nat_lt 65535 n then None else Some n
+revision_of n = if nat_lt REVISION n then None else Some n
 
 abbrev pub revision_in : Items → Option ℕ
 revision_in xs = option_and_then revision_of (option_map (λ n. n.0) (number_in xs))

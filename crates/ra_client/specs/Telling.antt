@@ -6,6 +6,7 @@ use Rattle.byte_streams.specs.declared.sink.Sink.{Sink}
 use Rattle.node_base.specs.Path.{Path}
 use Rattle.node_base.specs.Props.{PropMap, IsProps}
 use Rattle.node_base.specs.Tree.{PathMap}
+use Rattle.node_base.specs.declared.limits.TheConstants.{REVISION}
 use Rattle.dump_load.specs.declared.change.Change.{Change}
 use Rattle.dump_load.specs.declared.load.Applied.{Applied}
 use Rattle.dump_load.specs.Effect.{effect}
@@ -55,7 +56,7 @@ Hears told Is old new result = over_of old ≡ None → TakesTold told Is (ends_
 
 -- the newest revision that a server tells
 abbrev pub HearsNumber : {R O : Type 0} {g : InputGhosts R} {h : OutputGhosts O} → ClientPort R O g h → ClientPort R O g h → Result ℕ ClientFault → Type 0
-HearsNumber old new result = (n : ℕ) → n ≤ 65535 → Hears (number_told n) (λ found. found ≡ n) old new result
+HearsNumber old new result = (n : ℕ) → n ≤ REVISION → Hears (number_told n) (λ found. found ≡ n) old new result
 
 -- the properties that it tells, within their limits
 abbrev pub HearsProps : {R O : Type 0} {g : InputGhosts R} {h : OutputGhosts O} → ClientPort R O g h → ClientPort R O g h → Result PropMap ClientFault → Type 0

@@ -3,6 +3,7 @@
 ghost use Rattle.std.specs.Prelude.{◌≡◌, ◌≤◌, List, ℕ, length, IfErr, IfOk, OnOk, Ok};
 ghost use Rattle.dump_load.specs.Trees.{Makes};
 ghost use Rattle.std.specs.Io.KnownBytes.{Appends};
+ghost use Rattle.node_base.specs.declared.limits.TheConstants.{REVISION};
 ghost use Rattle.byte_streams.specs.Sinks.{inner_of};
 ghost use Rattle.ra_wire.specs.Commands.{command_as};
 ghost use Rattle.ra_client.specs.Exchanges.{SendsCommand, TakesAnswer, TakesRevision, TakesSet, AsksLatest, AsksProps};
@@ -130,7 +131,7 @@ pub fn ask_revision<I: Input + Drop, O: Output + Drop>(
     number: RevNo,
     trees: &[Tree],
 ) -> Result<(Applied, Props), ClientFault>
-    requires few { length trees.now ≤ 65535 }
+    requires few { length trees.now ≤ REVISION }
     ensures asked { AsksRevision number trees.now (items.old, out.old) (items.new, out.new) result }
     ensures makes { IfOk result (λ r. Makes trees.now r.0.set r.0.tree) }
 {
@@ -147,7 +148,7 @@ fn take_replay<I: Input + Drop>(
     items: &mut ItemStream<I>,
     trees: &[Tree],
 ) -> Result<(Applied, Props), ClientFault>
-    requires few { length trees.now ≤ 65535 }
+    requires few { length trees.now ≤ REVISION }
     ensures taken { TakesAnswer (TakesRevision trees.now) items.old items.new result }
     ensures makes { IfOk result (λ r. Makes trees.now r.0.set r.0.tree) }
 {
@@ -163,7 +164,7 @@ fn take_revision<I: Input + Drop>(
     items: &mut ItemStream<I>,
     trees: &[Tree],
 ) -> Result<(Applied, Props), ClientFault>
-    requires few { length trees.now ≤ 65535 }
+    requires few { length trees.now ≤ REVISION }
     ensures taken { TakesRevision trees.now items.old items.new result }
     ensures makes { IfOk result (λ r. Makes trees.now r.0.set r.0.tree) }
 {
@@ -180,7 +181,7 @@ fn take_changes<I: Input + Drop>(
     trees: &[Tree],
     props: Props,
 ) -> Result<(Applied, Props), ClientFault>
-    requires few { length trees.now ≤ 65535 }
+    requires few { length trees.now ≤ REVISION }
     ensures taken { TakesSet trees.now props items.old items.new result }
     ensures makes { IfOk result (λ r. Makes trees.now r.0.set r.0.tree) }
 {
@@ -212,7 +213,7 @@ pub fn ask_deltas<I: Input + Drop, O: Output + Drop>(
     number: RevNo,
     trees: &[Tree],
 ) -> Result<(Applied, Props), ClientFault>
-    requires few { length trees.now ≤ 65535 }
+    requires few { length trees.now ≤ REVISION }
     ensures asked { AsksDeltas number trees.now (items.old, out.old) (items.new, out.new) result }
     ensures makes { IfOk result (λ r. Makes trees.now r.0.set r.0.tree) }
 {
@@ -229,7 +230,7 @@ fn take_deltas<I: Input + Drop>(
     items: &mut ItemStream<I>,
     trees: &[Tree],
 ) -> Result<(Applied, Props), ClientFault>
-    requires few { length trees.now ≤ 65535 }
+    requires few { length trees.now ≤ REVISION }
     ensures taken { TakesAnswer (TakesDeltaRevision trees.now) items.old items.new result }
     ensures makes { IfOk result (λ r. Makes trees.now r.0.set r.0.tree) }
 {
@@ -245,7 +246,7 @@ fn take_delta_revision<I: Input + Drop>(
     items: &mut ItemStream<I>,
     trees: &[Tree],
 ) -> Result<(Applied, Props), ClientFault>
-    requires few { length trees.now ≤ 65535 }
+    requires few { length trees.now ≤ REVISION }
     ensures taken { TakesDeltaRevision trees.now items.old items.new result }
     ensures makes { IfOk result (λ r. Makes trees.now r.0.set r.0.tree) }
 {
@@ -262,7 +263,7 @@ fn take_delta_changes<I: Input + Drop>(
     trees: &[Tree],
     props: Props,
 ) -> Result<(Applied, Props), ClientFault>
-    requires few { length trees.now ≤ 65535 }
+    requires few { length trees.now ≤ REVISION }
     ensures taken { TakesDeltaSet trees.now props items.old items.new result }
     ensures makes { IfOk result (λ r. Makes trees.now r.0.set r.0.tree) }
 {

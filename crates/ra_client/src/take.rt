@@ -1,6 +1,7 @@
 //! Items of a stream, as what they say to a client.
 
 ghost use Rattle.std.specs.Prelude.{◌≡◌, ◌≤◌, length, IfOk};
+ghost use Rattle.node_base.specs.declared.limits.TheConstants.{REVISION};
 ghost use Rattle.dump_load.specs.Trees.{Makes};
 ghost use Rattle.ra_client.specs.Found.{repository_as};
 ghost use Rattle.ra_client.specs.Said.{authorised_said, done_said, number_said, proplist_said, revprops_said, same};
@@ -96,7 +97,7 @@ pub fn take_set<I: Input + Drop>(
     trees: &[Tree],
     items: &mut ItemStream<I>,
 ) -> Result<Applied, ClientFault>
-    requires few { length trees.now ≤ 65535 }
+    requires few { length trees.now ≤ REVISION }
     ensures taken { TakesEdit trees.now items.old items.new result }
     ensures makes { IfOk result (λ a. Makes trees.now a.set a.tree) }
 {
@@ -113,7 +114,7 @@ pub fn take_set_of_deltas<I: Input + Drop>(
     trees: &[Tree],
     items: &mut ItemStream<I>,
 ) -> Result<Applied, ClientFault>
-    requires few { length trees.now ≤ 65535 }
+    requires few { length trees.now ≤ REVISION }
     ensures taken { TakesDeltas trees.now items.old items.new result }
     ensures makes { IfOk result (λ a. Makes trees.now a.set a.tree) }
 {

@@ -1,6 +1,7 @@
 -- Texts that come as differences: what they make is within the limit, and read as new data in windows.
 use Rattle.std.proofs.Common.{◌≡◌, ℕ, zero, suc, ◌≤◌, ◌<◌, List, [], ◌∷◌, ◌++◌, length, take, drop, refl, sym, ap, subst, ◌∙◌, append_assoc, append-nil, length-append, take-append-drop, arith, Bool, true, false, Result, Ok, Err}
 use Rattle.std.proofs.lemmas.List.{length-drop}
+use Rattle.svndiff.specs.declared.limits.TheConstants.{TEXT_BYTES}
 use Rattle.svndiff.specs.DeltaStreams as deltas
 use Rattle.svndiff.specs.declared.delta.Delta.{Delta}
 use Rattle.svndiff.specs.declared.instructions.Instruction.{Instruction}
@@ -21,7 +22,7 @@ use Rattle.ra_edit.specs.DeltaEdits.{IsAwaiting}
 use Rattle.ra_edit.specs.Differences.{GoesOn, RefusedBehind}
 use Rattle.ra_edit.proofs.EditRead.{take_some}
 
-part_fits : (base : List ℕ) (p : Awaited) (w : Window) (is : List Instruction) (new text bytes : List ℕ) → Part base p w is new text bytes → length text ≤ 1048576
+part_fits : (base : List ℕ) (p : Awaited) (w : Window) (is : List Instruction) (new text bytes : List ℕ) → Part base p w is new text bytes → length text ≤ TEXT_BYTES
 part_fits base (at.Magic k) w is new text bytes h = omega (arith, ap length h.1)
 part_fits base at.Between w is new text bytes h = omega (arith, h.0.room_is)
 part_fits base (at.Head f count n) w is new text bytes h = omega (arith, h.3.room_is)
@@ -33,7 +34,7 @@ part_fits base at.Whole w is new text bytes h = omega (arith, h.3.whole.room_is)
 part_fits base at.Failed w is new text bytes h = absurd h
 
 -- what the bytes of a difference make so far
-pub delta_fits : (base bytes text : List ℕ) (d : Delta) → deltas.stream_of base bytes ≡ deltas.Reads text d → length text ≤ 1048576
+pub delta_fits : (base bytes text : List ℕ) (d : Delta) → deltas.stream_of base bytes ≡ deltas.Reads text d → length text ≤ TEXT_BYTES
 delta_fits base bytes text d e =
     let h : StreamStands base (deltas.Reads text d) bytes = subst (λ s. StreamStands base s bytes) e (from_start base bytes) in
     part_fits base d.window.place d.window d.instructions d.fresh text bytes h.2
@@ -51,20 +52,20 @@ pub record MadeRead (text made : List ℕ) (r : Reading) (bytes : List ℕ) : Ty
 none_made : (text : List ℕ) (r : Reading) → IsAwaiting text r → MadeRead text [] r []
 none_made text r a = record { new = r; reads = ap (λ t. Reads t r) (sym (append-nil text)); awaits = subst (λ t. IsAwaiting t r) (sym (append-nil text)) a }
 
-window_made : (text part rest more : List ℕ) (r : Reading) → 0 < length part → length part ≤ 65536 → IsAwaiting text r → length (text ++ (part ++ rest)) ≤ 1048576 → ((new : Reading) → IsAwaiting (text ++ part) new → length ((text ++ part) ++ rest) ≤ 1048576 → MadeRead (text ++ part) rest new more) → MadeRead text (part ++ rest) r (window part ++ more)
+window_made : (text part rest more : List ℕ) (r : Reading) → 0 < length part → length part ≤ 65536 → IsAwaiting text r → length (text ++ (part ++ rest)) ≤ TEXT_BYTES → ((new : Reading) → IsAwaiting (text ++ part) new → length ((text ++ part) ++ rest) ≤ TEXT_BYTES → MadeRead (text ++ part) rest new more) → MadeRead text (part ++ rest) r (window part ++ more)
 window_made text part rest more r some short a fits behind =
     let l1 = length-append text (part ++ rest) in
     let l2 = length-append part rest in
     let l3 = length-append text part in
     let run = window_read text (window part) part more r a.0 (window_is part some short) (omega (arith, a.1, fits, l1, l2)) in
-    let next = behind run.0 (run.1, omega (arith, run.2, a.1, fits, l1, l2, l3)) (subst (λ l. length l ≤ 1048576) (sym (append_assoc text part rest)) fits) in
+    let next = behind run.0 (run.1, omega (arith, run.2, a.1, fits, l1, l2, l3)) (subst (λ l. length l ≤ TEXT_BYTES) (sym (append_assoc text part rest)) fits) in
     record {
       new = next.new;
       reads = run.3 ∙ next.reads ∙ ap (λ t. Reads t next.new) (append_assoc text part rest);
       awaits = subst (λ t. IsAwaiting t next.new) (append_assoc text part rest) next.awaits;
     }
 
-made_within : (k : ℕ) (text made : List ℕ) (r : Reading) → length made ≤ k → IsAwaiting text r → length (text ++ made) ≤ 1048576 → MadeRead text made r (windows_within k made)
+made_within : (k : ℕ) (text made : List ℕ) (r : Reading) → length made ≤ k → IsAwaiting text r → length (text ++ made) ≤ TEXT_BYTES → MadeRead text made r (windows_within k made)
 made_within zero text [] r h a fits = none_made text r a
 made_within zero text (b ∷ made) r h a fits = absurd (omega (arith, h))
 made_within (suc k) text [] r h a fits = none_made text r a
@@ -73,10 +74,10 @@ made_within (suc k) text (b ∷ made) r h a fits =
     let s = take_some 65536 (b ∷ made) (omega arith) (omega arith) in
     let joined = take-append-drop 65536 (b ∷ made) in
     subst (λ l. MadeRead text l r (window (take 65536 (b ∷ made)) ++ windows_within k (drop 65536 (b ∷ made)))) joined
-    (window_made text (take 65536 (b ∷ made)) (drop 65536 (b ∷ made)) (windows_within k (drop 65536 (b ∷ made))) r s.0 s.1 a (subst (λ l. length (text ++ l) ≤ 1048576) (sym joined) fits)
+    (window_made text (take 65536 (b ∷ made)) (drop 65536 (b ∷ made)) (windows_within k (drop 65536 (b ∷ made))) r s.0 s.1 a (subst (λ l. length (text ++ l) ≤ TEXT_BYTES) (sym joined) fits)
     (λ new aw l. made_within k (text ++ take 65536 (b ∷ made)) (drop 65536 (b ∷ made)) new (omega (arith, d, h)) aw l))
 
-pub made_read : (text made : List ℕ) (r : Reading) → IsAwaiting text r → length (text ++ made) ≤ 1048576 → MadeRead text made r (windows made)
+pub made_read : (text made : List ℕ) (r : Reading) → IsAwaiting text r → length (text ++ made) ≤ TEXT_BYTES → MadeRead text made r (windows made)
 made_read text made r a fits = made_within (length made) text made r (omega arith) a fits
 
 -- ---- bytes that are refused

@@ -11,6 +11,7 @@ use Rattle.ra_item.specs.Items.{Item, Text}
 use Rattle.node_base.specs.Path.{Path, same_path, same_name}
 use Rattle.node_base.specs.PathText.{path_text}
 use Rattle.node_base.specs.declared.node.Source.{Source}
+use Rattle.svndiff.specs.declared.limits.TheConstants.{TEXT_BYTES}
 use Rattle.node_base.proofs.PathLemmas.{same_path_itself, path_of_same, name_of_same}
 use Rattle.delta_editor.specs.declared.call.Call.{Call}
 use Rattle.delta_editor.specs.declared.call.Call.TheVariants as call
@@ -164,13 +165,13 @@ parts_join (suc k) (b ∷ text) h =
     ap (λ t. take 65536 (b ∷ text) ++ t) (parts_join k (drop 65536 (b ∷ text)) (omega (arith, d, h))) ∙ take-append-drop 65536 (b ∷ text)
 
 abbrev pub Awaits : List ℕ → Reading → Type 0
-Awaits text r = (r.place ≡ at.Between) × (r.room ≡ 1048576 - length text)
+Awaits text r = (r.place ≡ at.Between) × (r.room ≡ TEXT_BYTES - length text)
 
 abbrev pub in_text : List ℕ → Path → List ℕ → Reading → List Named → At
 in_text t f text r os = Inside (named t f (edits.Within text r) ∷ os)
 
-pub pieces_say : (t : List ℕ) (f : Path) (os : List Named) (text : List ℕ) (r : Reading) (ps : List (List ℕ)) (items : List Item) (rest : List Call) → AreParts ps → Awaits text r → length (text ++ concat ps) ≤ 1048576 → ((new : Reading) → Awaits (text ++ concat ps) new → AllSay (in_text t f (text ++ concat ps) new os) items rest Ended) → AllSay (in_text t f text r os) (map (λ part. chunk (Text t) (window part)) ps ++ items) (map (call.TextPiece f) ps ++ rest) Ended
-pieces_say t f os text r [] items rest a w h then_say = subst (λ x. AllSay (in_text t f x r os) items rest Ended) (append-nil text) (then_say r (w.0, w.1 ∙ ap (λ x. 1048576 - length x) (sym (append-nil text))))
+pub pieces_say : (t : List ℕ) (f : Path) (os : List Named) (text : List ℕ) (r : Reading) (ps : List (List ℕ)) (items : List Item) (rest : List Call) → AreParts ps → Awaits text r → length (text ++ concat ps) ≤ TEXT_BYTES → ((new : Reading) → Awaits (text ++ concat ps) new → AllSay (in_text t f (text ++ concat ps) new os) items rest Ended) → AllSay (in_text t f text r os) (map (λ part. chunk (Text t) (window part)) ps ++ items) (map (call.TextPiece f) ps ++ rest) Ended
+pieces_say t f os text r [] items rest a w h then_say = subst (λ x. AllSay (in_text t f x r os) items rest Ended) (append-nil text) (then_say r (w.0, w.1 ∙ ap (λ x. TEXT_BYTES - length x) (sym (append-nil text))))
 pieces_say t f os text r (part ∷ ps) items rest a w h then_say =
     let join : (text ++ (part ++ [])) ++ concat ps ≡ text ++ (part ++ concat ps) = ap (λ x. (text ++ x) ++ concat ps) (append-nil part) ∙ append_assoc text part (concat ps) in
     let l1 = length-append text (part ++ concat ps) in
@@ -182,7 +183,7 @@ pieces_say t f os text r (part ∷ ps) items rest a w h then_say =
     let behind_it : Awaits (text ++ (part ++ [])) run.0 = (run.1, omega (arith, run.2, w.1, l3, l4)) in
     Then (in_text t f text r os) (in_text t f (text ++ (part ++ [])) run.0 os) Ended (chunk (Text t) (window part)) (map (λ part. chunk (Text t) (window part)) ps ++ items) (call.TextPiece f part ∷ []) (map (call.TextPiece f) ps ++ rest)
     (edits.Chunk t f os text (window part) r run.0 (part ∷ []) (chunk (Text t) (window part)) reads (sym (window_pieces (window part) part r w.0 (window_is part a.0 a.1) a.0 (omega (arith, w.1, h, l1, l2)))) ([], [], refl))
-    (pieces_say t f os (text ++ (part ++ [])) run.0 ps items rest a.2 behind_it (subst (λ x. length x ≤ 1048576) (sym join) h) (λ new aw. subst (λ x. AllSay (in_text t f x new os) items rest Ended) (sym join) (then_say new (subst (λ x. Awaits x new) join aw))))
+    (pieces_say t f os (text ++ (part ++ [])) run.0 ps items rest a.2 behind_it (subst (λ x. length x ≤ TEXT_BYTES) (sym join) h) (λ new aw. subst (λ x. AllSay (in_text t f x new os) items rest Ended) (sym join) (then_say new (subst (λ x. Awaits x new) join aw))))
 
 -- ---- calls one after another
 

@@ -4,6 +4,7 @@ use Rattle.std.specs.List.{list_any, list_all, concat}
 use Rattle.ra_item.specs.Items.{Number, Text, End}
 use Rattle.node_base.specs.Path.{Path, same_path}
 use Rattle.node_base.specs.PathText.{path_text}
+use Rattle.svndiff.specs.declared.limits.TheConstants.{TEXT_BYTES}
 use Rattle.node_base.proofs.PathLemmas.{path_of_same}
 use Rattle.delta_editor.specs.declared.call.Call.{Call}
 use Rattle.delta_editor.specs.declared.call.Call.TheVariants as call
@@ -106,7 +107,7 @@ mutual
       let os = named t p Fresh ∷ dirs opened ds in
       let r = ran (same_path q p) (Within (OpenText q ∷ open_dirs ds)) cs e in
       let item = command (codes "apply-textdelta") (Text t ∷ list [] ∷ []) in
-      let ready : Reading = record { place = at.Between; source = 0; target = 0; instructions = 0; fresh = 0; sum = 0; room = 1048576 } in
+      let ready : Reading = record { place = at.Between; source = 0; target = 0; instructions = 0; fresh = 0; sum = 0; room = TEXT_BYTES } in
       subst (λ v. AllSay (Inside os) (spelled_after opened (call.TextStart v ∷ cs)) (cut_all (call.TextStart v ∷ cs)) Ended) (sym (path_of_same q p r.0)) (
       Then (Inside os) (in_text t p [] begin (dirs opened ds)) Ended item (chunk (Text t) head ∷ spelled_after opened cs) (call.TextStart p ∷ []) (cut_all cs)
       (edits.TextStart t p (dirs opened ds) End item ([], [], refl))
@@ -144,7 +145,7 @@ mutual
       let r = ran (same_path q p) (Within (OpenText p ∷ open_dirs ds)) cs e in
       let whole : text ++ concat (parts piece) ≡ text ++ piece = ap (λ y. text ++ y) (parts_join (length piece) piece (omega arith)) in
       subst (λ v. AllSay (in_text t p text reader (dirs opened ds)) (spelled_after opened (call.TextPiece v piece ∷ cs)) (cut_all (call.TextPiece v piece ∷ cs)) Ended) (sym (path_of_same q p r.0)) (
-      pieces_say t p (dirs opened ds) text reader (parts piece) (spelled_after opened cs) (cut_all cs) (parts_are (length piece) piece (omega arith)) aw (subst (λ y. length y ≤ 1048576) (sym whole) x.0) (λ new a.
+      pieces_say t p (dirs opened ds) text reader (parts piece) (spelled_after opened cs) (cut_all cs) (parts_are (length piece) piece (omega arith)) aw (subst (λ y. length y ≤ TEXT_BYTES) (sym whole) x.0) (λ new a.
       subst (λ y. AllSay (in_text t p y new (dirs opened ds)) (spelled_after opened cs) (cut_all cs) Ended) (sym whole) (text_say opened ds p (text ++ piece) new cs f r.1 d w.1 n x.1 (omega (arith, k)) (subst (λ y. Awaits y new) whole a))))
   text_say opened ds p text reader (call.TextEnd q ∷ cs) f e d w n x k aw =
       let t = token (number_of opened p) in

@@ -7,6 +7,7 @@ use Rattle.ra_item.specs.ItemStreams.{Takes, Ends, Stops}
 use Rattle.ra_item.specs.Streams.{Stream}
 use Rattle.ra_item.specs.declared.fault.NextFault.{NextFault}
 use Rattle.node_base.specs.Path.{Path}
+use Rattle.svndiff.specs.declared.limits.TheConstants.{TEXT_BYTES}
 use Rattle.delta_editor.specs.Calls.{Adds}
 use Rattle.delta_editor.specs.declared.call.Call.{Call}
 use Rattle.delta_editor.specs.declared.call.Call.TheVariants as call
@@ -42,7 +43,7 @@ coming_in o = option_map (λ d. difference d.base d.reader.delta) o
 
 -- a text is read up to an end between windows, and may have as much more as its limit leaves
 abbrev pub IsAwaiting : List ℕ → Reading → Type 0
-IsAwaiting text r = (r.place ≡ place.Between) × (r.room + length text ≡ 1048576)
+IsAwaiting text r = (r.place ≡ place.Between) × (r.room + length text ≡ TEXT_BYTES)
 
 -- the text so far of the file that is open is what the bytes of the open difference make of its base
 abbrev pub IsLevel : At → Option Difference → Type 0

@@ -8,6 +8,8 @@ use Rattle.node_base.specs.Path.{Path}
 use Rattle.node_base.specs.PathText.{path_text, path_read}
 use Rattle.node_base.specs.Props.{prop_name_read}
 use Rattle.node_base.specs.declared.node.Source.{Source}
+use Rattle.node_base.specs.declared.limits.TheConstants.{REVISION}
+use Rattle.svndiff.specs.declared.limits.TheConstants.{TEXT_BYTES}
 use Rattle.delta_editor.specs.declared.call.Call.{Call}
 use Rattle.delta_editor.specs.declared.call.Call.TheVariants as call
 use Rattle.delta_editor.specs.Nesting.{IsNested}
@@ -31,10 +33,10 @@ abbrev pub IsPathText : Path → Type 0
 IsPathText p = path_read (path_text p) ≡ Ok p
 
 abbrev pub IsRev : Option ℕ → Type 0
-IsRev base = IfSome base (λ n. n ≤ 65535)
+IsRev base = IfSome base (λ n. n ≤ REVISION)
 
 abbrev pub IsFrom : Option Source → Type 0
-IsFrom from = IfSome from (λ s. IsPathText s.path × (s.revision ≤ 65535))
+IsFrom from = IfSome from (λ s. IsPathText s.path × (s.revision ≤ REVISION))
 
 -- what a call says is within the rules and limits, as the types of an editor's arguments make sure
 abbrev pub IsWithin : Call → Type 0
@@ -59,7 +61,7 @@ TextsFit given (call.AddFile up p from ∷ cs) = TextsFit None cs
 TextsFit given (call.OpenFile up p base ∷ cs) = TextsFit None cs
 TextsFit given (call.TextStart p ∷ cs) = TextsFit (Some []) cs
 TextsFit None (call.TextPiece p piece ∷ cs) = TextsFit None cs
-TextsFit (Some text) (call.TextPiece p piece ∷ cs) = (length (text ++ piece) ≤ 1048576) × TextsFit (Some (text ++ piece)) cs
+TextsFit (Some text) (call.TextPiece p piece ∷ cs) = (length (text ++ piece) ≤ TEXT_BYTES) × TextsFit (Some (text ++ piece)) cs
 TextsFit None (call.CloseFile p sum ∷ cs) = TextsFit None cs
 TextsFit (Some text) (call.CloseFile p sum ∷ cs) = SumsTo sum text × TextsFit (Some text) cs
 TextsFit given (c ∷ cs) = TextsFit given cs
@@ -80,7 +82,7 @@ cut_all (c ∷ cs) = cut c ++ cut_all cs
 -- the items that are written for an edit are that edit: one that begins with its target, keeps the nesting, goes down, and says
 -- what is within the rules and limits
 abbrev pub WrittenIsEdit : Type 0
-WrittenIsEdit = (n : ℕ) (base : Option ℕ) (body : List Call) → n ≤ 65535 → IsRev base → list_all is_no_target body ≡ true → IsNested (call.Target n ∷ call.OpenRoot base ∷ body) → AllDeeper body → AllWithin body → TextsFit None body → length body < 2 ^ 64 → SpellsEdit (edit_items (call.Target n ∷ call.OpenRoot base ∷ body)) (call.Target n ∷ call.OpenRoot base ∷ cut_all body)
+WrittenIsEdit = (n : ℕ) (base : Option ℕ) (body : List Call) → n ≤ REVISION → IsRev base → list_all is_no_target body ≡ true → IsNested (call.Target n ∷ call.OpenRoot base ∷ body) → AllDeeper body → AllWithin body → TextsFit None body → length body < 2 ^ 64 → SpellsEdit (edit_items (call.Target n ∷ call.OpenRoot base ∷ body)) (call.Target n ∷ call.OpenRoot base ∷ cut_all body)
 
 -- a call, with each byte of a text in a piece of its own
 abbrev pub each_byte : Call → List Call
@@ -105,7 +107,7 @@ EndsOnce = (items more : List Item) (one other : List Call) → SpellsEdit items
 
 -- an edit that is written, and whose items are within the limits of items
 pub record IsWritten (n : ℕ) (base : Option ℕ) (body : List Call) : Type 0 where
-  pub rev : n ≤ 65535
+  pub rev : n ≤ REVISION
   pub from : IsRev base
   pub no_target : list_all is_no_target body ≡ true
   pub nested : IsNested (call.Target n ∷ call.OpenRoot base ∷ body)

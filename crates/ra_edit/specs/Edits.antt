@@ -8,6 +8,7 @@ use Rattle.node_base.specs.Path.{Path, Name, same_name}
 use Rattle.node_base.specs.PathText.{path_read}
 use Rattle.node_base.specs.Props.{prop_name_read}
 use Rattle.node_base.specs.declared.node.Source.{Source}
+use Rattle.node_base.specs.declared.limits.TheConstants.{REVISION}
 use Rattle.delta_editor.specs.declared.call.Call.{Call}
 use Rattle.delta_editor.specs.declared.call.Call.TheVariants as call
 use Rattle.ra_edit.specs.Commands.{list}
@@ -24,7 +25,7 @@ IsCommand name params item = (more rest : List Item) × (item ≡ list (Word nam
 -- brackets that are empty, or hold a revision
 abbrev pub IsRevision : Option ℕ → Item → Type 0
 IsRevision None item = item ≡ list []
-IsRevision (Some n) item = (more : List Item) × (n ≤ 65535) × (item ≡ list (Number n ∷ more))
+IsRevision (Some n) item = (more : List Item) × (n ≤ REVISION) × (item ≡ list (Number n ∷ more))
 
 -- brackets that are empty, or hold a string
 abbrev pub IsString : Option (List ℕ) → Item → Type 0
@@ -39,7 +40,7 @@ IsSum (Some sum) item = (digits : List ℕ) × (more : List Item) × (decode_siz
 -- brackets that are empty, or hold the path of a copy's source, behind one slash or none, and its revision
 abbrev pub IsSource : Option Source → Item → Type 0
 IsSource None item = item ≡ list []
-IsSource (Some s) item = (text : List ℕ) × (more : List Item) × (path_read text ≡ Ok s.path) × (s.revision ≤ 65535) × ((item ≡ list (Text text ∷ Number s.revision ∷ more)) ⊎ (item ≡ list (Text (47 ∷ text) ∷ Number s.revision ∷ more)))
+IsSource (Some s) item = (text : List ℕ) × (more : List Item) × (path_read text ≡ Ok s.path) × (s.revision ≤ REVISION) × ((item ≡ list (Text text ∷ Number s.revision ∷ more)) ⊎ (item ≡ list (Text (47 ∷ text) ∷ Number s.revision ∷ more)))
 
 -- what is open: a directory, or a file before its text, in it with the text so far and what has come of the window that isn't
 -- whole, and after it
@@ -91,7 +92,7 @@ SumsTo sum text = IfSome sum (λ s. s ≡ md5 text)
 
 -- what one item is behind others, and where the commands then stand: a chunk is pieces of a text, one for each window that has new data in it
 pub data Says : At → Item → List Call → At → Type 0 where
-  Target : (n : ℕ) (item : Item) → n ≤ 65535 → IsCommand (word_of word.TargetRev) (Number n ∷ []) item → Says Begun item (call.Target n ∷ []) Targeted
+  Target : (n : ℕ) (item : Item) → n ≤ REVISION → IsCommand (word_of word.TargetRev) (Number n ∷ []) item → Says Begun item (call.Target n ∷ []) Targeted
   OpenRoot : (at : At) (base : Option ℕ) (t : List ℕ) (b item : Item) → IsUnopened at → IsRevision base b → IsCommand (word_of word.OpenRoot) (b ∷ Text t ∷ []) item → Says at item (call.OpenRoot base ∷ []) (Inside (named t [] Dir ∷ []))
   AddDir : (u : List ℕ) (up : Path) (os : List Named) (text t : List ℕ) (p : Path) (from : Option Source) (s item : Item) → path_read text ≡ Ok p → is_free t (named u up Dir ∷ os) ≡ true → IsSource from s → IsCommand (word_of word.AddDir) (Text text ∷ Text u ∷ Text t ∷ s ∷ []) item → Says (Inside (named u up Dir ∷ os)) item (call.AddDir up p from ∷ []) (Inside (named t p Dir ∷ named u up Dir ∷ os))
   OpenDir : (u : List ℕ) (up : Path) (os : List Named) (text t : List ℕ) (p : Path) (base : Option ℕ) (b item : Item) → path_read text ≡ Ok p → is_free t (named u up Dir ∷ os) ≡ true → IsRevision base b → IsCommand (word_of word.OpenDir) (Text text ∷ Text u ∷ Text t ∷ b ∷ []) item → Says (Inside (named u up Dir ∷ os)) item (call.OpenDir up p base ∷ []) (Inside (named t p Dir ∷ named u up Dir ∷ os))

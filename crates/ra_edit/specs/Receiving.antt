@@ -6,6 +6,7 @@ use Rattle.node_base.specs.Path.{Path}
 use Rattle.node_base.specs.declared.node.Source.{Source}
 use Rattle.node_base.specs.PathText.{path_read}
 use Rattle.node_base.specs.Props.{prop_name_read}
+use Rattle.node_base.specs.declared.limits.TheConstants.{REVISION}
 use Rattle.ra_edit.specs.Commands.{list}
 use Rattle.ra_edit.specs.Names.{word_of}
 use Rattle.ra_edit.specs.Edits.{IsCommand, IsRevision, IsString, IsSum, IsSource}
@@ -36,7 +37,7 @@ IsPropName n x = (text : List ℕ) × (prop_name_read text ≡ Ok n) × (x ≡ T
 
 -- the item is a command with these parameters
 abbrev pub Forms : Command → Item → Type 0
-Forms (command.Target n) x = (n ≤ 65535) × IsCommand (word_of word.TargetRev) (Number n ∷ []) x
+Forms (command.Target n) x = (n ≤ REVISION) × IsCommand (word_of word.TargetRev) (Number n ∷ []) x
 Forms (command.OpenRoot base t) x = (b : Item) × IsRevision base b × IsCommand (word_of word.OpenRoot) (b ∷ Text t.items ∷ []) x
 Forms (command.DeleteEntry p base u) x = (q b : Item) × IsPath p q × IsRevision base b × IsCommand (word_of word.DeleteEntry) (q ∷ b ∷ Text u.items ∷ []) x
 Forms (command.AddDir p u t from) x = (q s : Item) × IsPath p q × IsSource from s × IsCommand (word_of word.AddDir) (q ∷ Text u.items ∷ Text t.items ∷ s ∷ []) x
@@ -78,7 +79,7 @@ abbrev pub IsA : Param → Item → Type 0
 IsA AWord x = (w : List ℕ) × (x ≡ Word w)
 IsA AText x = (t : List ℕ) × (x ≡ Text t)
 IsA AList x = (xs : List Item) × (x ≡ list xs)
-IsA ARevision x = (n : ℕ) × (n ≤ 65535) × (x ≡ Number n)
+IsA ARevision x = (n : ℕ) × (n ≤ REVISION) × (x ≡ Number n)
 IsA APath x = (p : Path) × IsPath p x
 IsA APropName x = (n : List ℕ) × IsPropName n x
 IsA ABase x = (base : Option ℕ) × IsRevision base x

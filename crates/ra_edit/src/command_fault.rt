@@ -5,6 +5,7 @@ ghost use Rattle.ra_edit.specs.EditFaults.{of_window, of_delta};
 ghost use Rattle.ra_edit.specs.declared.command_fault.CommandFault.TheVariants as fault;
 
 use delta_editor::EditorFault;
+use node_base::texts;
 use std::alloc::{AllocError, AllocFailed};
 use svndiff::delta_fault::DeltaFault;
 use svndiff::fault::WindowFault;
@@ -14,32 +15,32 @@ use thiserror::Error;
 #[derive(Clone, Copy, Debug, PartialEq, Eq, Drop, Error)]
 pub enum CommandFault {
     /// A text isn't the one whose MD5 came with it (6).
-    #[error("checksum mismatch")]
+    #[error("{}", texts::BAD_SUM)]
     BadSum,
     /// A window or a text is longer than its limit (8).
-    #[error("limit exceeded")]
+    #[error("{}", texts::TOO_LONG)]
     TooLong,
     /// The text was refused before (32).
-    #[error("failed before")]
+    #[error("{}", texts::FAILED)]
     Failed,
     /// A text's bytes aren't svndiff version 0 (44).
-    #[error("bad window")]
+    #[error("{}", texts::BAD_WINDOW)]
     BadWindow,
     /// A window of a text copies (45).
-    #[error("window copies")]
+    #[error("{}", texts::COPY_WINDOW)]
     CopyWindow,
     /// A command names what isn't open, isn't the innermost open thing or is of another kind; a new token is in
     /// use; or something is open at the end (46).
-    #[error("bad token")]
+    #[error("{}", texts::BAD_TOKEN)]
     BadToken,
     /// No editor command, one out of its place, a path, a property's name or a revision that is none (48).
-    #[error("bad command shape")]
+    #[error("{}", texts::BAD_SHAPE)]
     BadShape,
     /// The peer gave the drive up: `abort-edit`, or a failure in place of a command (60).
     #[error("refused")]
     Refused,
     /// A growth was refused (70).
-    #[error("out of memory")]
+    #[error("{}", texts::OUT_OF_MEMORY)]
     OutOfMemory,
     /// The editor refused a call; the number is the editor's.
     #[error("{0}")]

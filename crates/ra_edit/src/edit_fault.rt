@@ -5,6 +5,7 @@ ghost use Rattle.ra_edit.specs.EditFaults.{edit_number, of_next, of_command};
 
 use crate::command_fault::CommandFault;
 use delta_editor::EditorFault;
+use node_base::texts;
 use ra_item::fault::{ItemFault, NextFault};
 use thiserror::Error;
 
@@ -12,45 +13,45 @@ use thiserror::Error;
 #[derive(Clone, Copy, Debug, PartialEq, Eq, Drop, Error)]
 pub enum EditFault {
     /// A text isn't the one whose MD5 came with it (6).
-    #[error("checksum mismatch")]
+    #[error("{}", texts::BAD_SUM)]
     BadSum,
     /// The bytes end inside an item (7).
-    #[error("unexpected end of input")]
+    #[error("{}", texts::TRUNCATED)]
     Truncated,
     /// A word, a string, an item, a window or a text is longer than its limit (8).
-    #[error("limit exceeded")]
+    #[error("{}", texts::TOO_LONG)]
     TooLong,
     /// The stream was refused before (32).
-    #[error("failed before")]
+    #[error("{}", texts::FAILED)]
     Failed,
     /// A byte that no item has in its place (41).
-    #[error("bad item")]
+    #[error("{}", texts::BAD_ITEM)]
     BadItem,
     /// Lists stand more than 16 deep in one another (42).
-    #[error("nesting too deep")]
+    #[error("{}", texts::TOO_DEEP)]
     TooDeep,
     /// A text's bytes aren't svndiff version 0 (44).
-    #[error("bad window")]
+    #[error("{}", texts::BAD_WINDOW)]
     BadWindow,
     /// A window of a text copies (45).
-    #[error("window copies")]
+    #[error("{}", texts::COPY_WINDOW)]
     CopyWindow,
     /// A command names what isn't open, isn't the innermost open thing or is of another kind; a new token is in
     /// use; or something is open at the end (46).
-    #[error("bad token")]
+    #[error("{}", texts::BAD_TOKEN)]
     BadToken,
     /// No editor command, one out of its place, a path, a property's name or a revision that is none, or the
     /// input's end between items (48).
-    #[error("bad command shape")]
+    #[error("{}", texts::BAD_SHAPE)]
     BadShape,
     /// A read failed, or the input was read as often as one stream may be (49).
-    #[error("stream failed")]
+    #[error("{}", texts::PEER_FAILED)]
     PeerFailed,
     /// The peer gave the drive up: `abort-edit`, or a failure in place of a command (60).
     #[error("refused")]
     Refused,
     /// A growth was refused (70).
-    #[error("out of memory")]
+    #[error("{}", texts::OUT_OF_MEMORY)]
     OutOfMemory,
     /// The editor refused a call; the number is the editor's.
     #[error("{0}")]

@@ -19,6 +19,7 @@ ghost use Rattle.node_base.specs.Path.{Path};
 use crate::name::Name;
 use crate::shape_fault::ShapeFault;
 use hex::decode_to_slice;
+use node_base::limits::REVISION;
 use node_base::{NodePath, PathFault, PropFault, PropName, RevNo, Source};
 use ra_item::item::{Content, Item};
 use std::alloc::Global;
@@ -134,11 +135,11 @@ impl Params {
 
     // The next item, which is a revision.
     fn revision(&mut self) -> Result<RevNo, ShapeFault>
-        ensures read { IfOk result (λ n. (n ≤ 65535) × (left_of self.old ≡ Number n ∷ left_of self.new)) }
+        ensures read { IfOk result (λ n. (n ≤ REVISION) × (left_of self.old ≡ Number n ∷ left_of self.new)) }
         ensures none { IfErr result (NotRead (ARevision ∷ []) (left_of self.old)) }
     {
         match self.next()?.into_content() {
-            Content::Number(n) if n <= 65_535 => Ok(RevNo::new(n as u16)),
+            Content::Number(n) if n <= REVISION as u64 => Ok(RevNo::new(n as u16)),
             Content::Number(_) | Content::List(_) | Content::Text(_) | Content::Word(_) => {
                 Err(ShapeFault::BadShape)
             }

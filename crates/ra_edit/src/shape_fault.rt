@@ -5,16 +5,17 @@ ghost use Rattle.ra_edit.specs.EditFaults.{of_command, of_shape};
 
 use crate::command_fault::CommandFault;
 use crate::edit_fault::EditFault;
+use node_base::texts;
 use thiserror::Error;
 
 /// Why an item is read as no command.
 #[derive(Clone, Copy, Debug, PartialEq, Eq, Drop, Error)]
 pub enum ShapeFault {
     /// No editor command, a path, a property's name or a revision that is none (48).
-    #[error("bad command shape")]
+    #[error("{}", texts::BAD_SHAPE)]
     BadShape,
     /// A growth was refused (70).
-    #[error("out of memory")]
+    #[error("{}", texts::OUT_OF_MEMORY)]
     OutOfMemory,
 }
 

@@ -12,6 +12,7 @@ use Rattle.ra_item.specs.declared.reading.Place.{Place}
 use Rattle.ra_item.specs.declared.reading.Place.TheVariants as at
 use Rattle.ra_item.specs.declared.reading.Reading.{Reading}
 use Rattle.ra_item.specs.Rests.{is_of_byte}
+use Rattle.ra_item.specs.declared.limits.TheConstants.{ITEM_BYTES, STRING_BYTES}
 
 abbrev Good : Step → Type 0
 Good (Next r) = is_failed r ≡ false
@@ -41,7 +42,7 @@ made_word : (w : List ℕ) → GoodMade (word_of w)
 made_word w = made_if (is_word w) _ _ (made_if (nat_lt 64 (length w)) _ _ refl tt) refl
 
 made_text : (t : List ℕ) → GoodMade (text_of t)
-made_text t = made_if (nat_lt 1048576 (length t)) _ _ refl tt
+made_text t = made_if (nat_lt STRING_BYTES (length t)) _ _ refl tt
 
 made_list : (xs : Items) → GoodMade (list_of xs)
 made_list xs = made_if (nat_lt 16 (nesting (Nested xs))) _ _ refl (made_if (nat_lt 33554433 (length (spell (Nested xs)))) _ _ refl tt)
@@ -82,11 +83,11 @@ good_number n r b =
     good_if (is_digit b) _ _
     (good_if (nat_lt (n * 10 + (b - 48)) 18446744073709551616) _ _ refl refl)
     (good_if (b == 58) _ _
-    (good_if (nat_lt 1048576 n) _ _ refl (good_choice (n == 0) r at.Ended (at.Text n) [] refl refl))
+    (good_if (nat_lt STRING_BYTES n) _ _ refl (good_choice (n == 0) r at.Ended (at.Text n) [] refl refl))
     (good_ends b (give r (Number n)) (good_give r (Number n))))
 
 good_counted : (s : Step) → Good s → Good (counted s)
-good_counted (Next r) h = good_if (is_between r) _ _ h (good_if (nat_lt r.count 33554432) _ _ h refl)
+good_counted (Next r) h = good_if (is_between r) _ _ h (good_if (nat_lt r.count ITEM_BYTES) _ _ h refl)
 good_counted (Gives x r) h = h
 good_counted (Refused f) h = h
 

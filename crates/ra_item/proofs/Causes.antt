@@ -14,6 +14,7 @@ use Rattle.ra_item.specs.Reading.{Step, Next, Gives, Refused, begin, is_nil, is_
 use Rattle.ra_item.specs.Streams.{Stream, Reads, Refuses, of_step, one_byte, reading, stream_of}
 use Rattle.ra_item.specs.Places.{Inside, Part}
 use Rattle.ra_item.specs.Refusals.{Begun, IsLongWord, IsLongText, IsLongItem, IsDeep, begins_white, IsDue, RefusedForCause}
+use Rattle.ra_item.specs.declared.limits.TheConstants.{ITEM_BYTES, STRING_BYTES}
 use Rattle.ra_item.proofs.Runs.{state, reading-append, lt_false}
 use Rattle.ra_item.proofs.Spelled.{spelled_short}
 use Rattle.ra_item.proofs.Classes.{both, digit_no_white, letter_no_white}
@@ -75,7 +76,7 @@ part_begins at.Failed held line outer bytes b i = absurd i
 list_fits : (xs : Items) → nesting (Nested xs) ≤ 16 → length (spell (Nested xs)) ≤ 33554433 → list_of xs ≡ Ok (Nested xs)
 list_fits xs d l = rw (lt_false 16 (nesting (Nested xs)) d, lt_false 33554433 (length (spell (Nested xs))) l) refl
 
-closed_why : (count : ℕ) (held : List ℕ) (line : List Item) (outer : List (List Item)) (bytes : List ℕ) (b : ℕ) → Part at.Closed held line outer bytes → count ≡ length bytes → count ≤ 33554432 → Shallow line outer → Why (bytes ++ b ∷ []) (byte_step at.Closed (state at.Closed count held line outer) b)
+closed_why : (count : ℕ) (held : List ℕ) (line : List Item) (outer : List (List Item)) (bytes : List ℕ) (b : ℕ) → Part at.Closed held line outer bytes → count ≡ length bytes → count ≤ ITEM_BYTES → Shallow line outer → Why (bytes ++ b ∷ []) (byte_step at.Closed (state at.Closed count held line outer) b)
 closed_why count held line [] bytes b o c k s = absurd o.1
 closed_why count held line (around ∷ outer) bytes b (none, (front, white, inner, i, w, sp, g, e)) c k s =
     let first = 40 ∷ (white ++ (inner ++ 41 ∷ [])) in
@@ -114,20 +115,20 @@ number_why n count held line outer bytes b (front, ds, none, i, s, small, e) =
     if_why (bytes ++ b ∷ []) (is_digit b) _ _
     (λ _. if_why (bytes ++ b ∷ []) (nat_lt (n * 10 + (b - 48)) 18446744073709551616) _ _ (λ _. tt) (λ _. tt))
     (λ _. if_why (bytes ++ b ∷ []) (b == 58) _ _
-    (λ h. if_why (bytes ++ b ∷ []) (nat_lt 1048576 n) _ _
-    (λ l. inr (inl (length outer, n, front, ds, begun line outer front i, s, lt_from 1048576 n l, ap (λ a. a ++ b ∷ []) e ∙ append_assoc front ds (b ∷ []) ∙ ap (λ x. front ++ (ds ++ x ∷ [])) (eq_from b 58 h))))
+    (λ h. if_why (bytes ++ b ∷ []) (nat_lt STRING_BYTES n) _ _
+    (λ l. inr (inl (length outer, n, front, ds, begun line outer front i, s, lt_from STRING_BYTES n l, ap (λ a. a ++ b ∷ []) e ∙ append_assoc front ds (b ∷ []) ∙ ap (λ x. front ++ (ds ++ x ∷ [])) (eq_from b 58 h))))
     (λ _. tt))
     (λ _. if_why (bytes ++ b ∷ []) (is_white b) _ _ (λ _. give_why (bytes ++ b ∷ []) (state (at.Number n) count held line outer) (Number n)) (λ _. tt)))
 
 -- behind a string
 ended_why : (count : ℕ) (held : List ℕ) (line : List Item) (outer : List (List Item)) (bytes : List ℕ) (b : ℕ) → Part at.Ended held line outer bytes → Why (bytes ++ b ∷ []) (byte_step at.Ended (state at.Ended count held line outer) b)
 ended_why count held line outer bytes b (front, ds, i, s, l, e) =
-    let made_so : text_of held ≡ Ok (Text held) = rw (lt_false 1048576 (length held) l) refl in
+    let made_so : text_of held ≡ Ok (Text held) = rw (lt_false STRING_BYTES (length held) l) refl in
     if_why (bytes ++ b ∷ []) (is_white b) _ _
     (λ _. subst (λ m. Why (bytes ++ b ∷ []) (made (state at.Ended count held line outer) m)) (sym made_so) (give_why (bytes ++ b ∷ []) (state at.Ended count held line outer) (Text held)))
     (λ _. tt)
 
-byte_why : (p : Place) (count : ℕ) (held : List ℕ) (line : List Item) (outer : List (List Item)) (bytes : List ℕ) (b : ℕ) → Part p held line outer bytes → count ≡ length bytes → count ≤ 33554432 → Shallow line outer → Why (bytes ++ b ∷ []) (byte_step p (state p count held line outer) b)
+byte_why : (p : Place) (count : ℕ) (held : List ℕ) (line : List Item) (outer : List (List Item)) (bytes : List ℕ) (b : ℕ) → Part p held line outer bytes → count ≡ length bytes → count ≤ ITEM_BYTES → Shallow line outer → Why (bytes ++ b ∷ []) (byte_step p (state p count held line outer) b)
 byte_why at.Between count held line outer bytes b i c k s = start_why count held line outer bytes b i.1 s
 byte_why at.Opened count held line outer bytes b i c k s = if_why (bytes ++ b ∷ []) (is_white b) _ _ (λ _. tt) (λ _. tt)
 byte_why at.Word count held line outer bytes b i c k s = word_why count held line outer bytes b i
@@ -141,9 +142,9 @@ byte_why at.Failed count held line outer bytes b i c k s = absurd i
 counted_why : (bytes : List ℕ) (b : ℕ) (s : Step) → Fine bytes b s → Why (bytes ++ b ∷ []) s → Why (bytes ++ b ∷ []) (counted s)
 counted_why bytes b (Next r) (inl g) h =
     if_why (bytes ++ b ∷ []) (is_between r) _ _ (λ _. tt) (λ _.
-    if_why (bytes ++ b ∷ []) (nat_lt r.count 33554432) _ _ (λ _. tt)
-    (λ l. inr (inr (omega (arith, le_from r.count 33554432 l, g.1, length-append bytes (b ∷ [])), part_begins r.place r.held r.row r.outer bytes b g.0))))
-counted_why bytes b (Next r) (inr g) h = subst (λ t. Why (bytes ++ b ∷ []) (if t then Next r else if nat_lt r.count 33554432 then Next (record r { count = r.count + 1 }) else Refused TooLong)) (sym g.2) tt
+    if_why (bytes ++ b ∷ []) (nat_lt r.count ITEM_BYTES) _ _ (λ _. tt)
+    (λ l. inr (inr (omega (arith, le_from r.count ITEM_BYTES l, g.1, length-append bytes (b ∷ [])), part_begins r.place r.held r.row r.outer bytes b g.0))))
+counted_why bytes b (Next r) (inr g) h = subst (λ t. Why (bytes ++ b ∷ []) (if t then Next r else if nat_lt r.count ITEM_BYTES then Next (record r { count = r.count + 1 }) else Refused TooLong)) (sym g.2) tt
 counted_why bytes b (Gives x r) g h = tt
 counted_why bytes b (Refused f) g h = h
 

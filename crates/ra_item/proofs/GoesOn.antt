@@ -14,6 +14,7 @@ use Rattle.ra_item.specs.declared.reading.Reading.{Reading}
 use Rattle.ra_item.specs.Reading.{Step, Next, Gives, Refused, begin, is_nil, is_between, give, made, counted, one_step, byte_step}
 use Rattle.ra_item.specs.Streams.{Stream, Reads, Refuses, of_step, one_byte, reading}
 use Rattle.ra_item.specs.Places.{InList, Inside, Part}
+use Rattle.ra_item.specs.declared.limits.TheConstants.{ITEM_BYTES, STRING_BYTES}
 use Rattle.ra_item.proofs.Runs.{state}
 use Rattle.ra_item.proofs.Read.{lt_from, list_made, list_item, one_white, stream_item, Spelt, all_spelt}
 
@@ -83,18 +84,18 @@ byte_flat (at.Number n) count held line outer b s =
     if_flat (is_digit b) _ _
     (λ _. if_flat (nat_lt (n * 10 + (b - 48)) 18446744073709551616) _ _ (λ _. s) (λ _. tt))
     (λ _. if_flat (b == 58) _ _
-    (λ _. if_flat (nat_lt 1048576 n) _ _ (λ _. tt) (λ _. s))
+    (λ _. if_flat (nat_lt STRING_BYTES n) _ _ (λ _. tt) (λ _. s))
     (λ _. if_flat (is_white b) _ _ (λ _. give_flat (at.Number n) count held line outer (Number n) s (omega (arith, open_few line outer s))) (λ _. tt)))
 byte_flat (at.Text n) count held line outer b s = s
 byte_flat at.Ended count held line outer b s =
     if_flat (is_white b) _ _
-    (λ _. made_flat at.Ended count held line outer (text_of held) s (λ x e. omega (arith, open_few line outer s, text_flat (nat_lt 1048576 (length held)) held x e)))
+    (λ _. made_flat at.Ended count held line outer (text_of held) s (λ x e. omega (arith, open_few line outer s, text_flat (nat_lt STRING_BYTES (length held)) held x e)))
     (λ _. tt)
 byte_flat at.Closed count held line outer b s = closed_flat count held line outer b s
 byte_flat at.Failed count held line outer b s = tt
 
 counted_flat : (s : Step) → Flat s → Flat (counted s)
-counted_flat (Next r) f = if_flat (is_between r) _ _ (λ _. f) (λ _. if_flat (nat_lt r.count 33554432) _ _ (λ _. f) (λ _. tt))
+counted_flat (Next r) f = if_flat (is_between r) _ _ (λ _. f) (λ _. if_flat (nat_lt r.count ITEM_BYTES) _ _ (λ _. f) (λ _. tt))
 counted_flat (Gives x r) f = f
 counted_flat (Refused g) f = tt
 
@@ -152,7 +153,7 @@ few : (bytes : List ℕ) (most all : ℕ) → most ≤ all → Finished bytes mo
 few bytes most all h (more, first, x, e, s, f, d, l) = (more, first, x, e, s, f, d, omega (arith, h, l))
 
 -- a string gets the bytes that it lacks
-text_ended : (n : ℕ) (held : List ℕ) (line : List Item) (outer : List (List Item)) (front ds bytes : List ℕ) → Inside outer line front → Spells ds n → n ≤ 1048576 → length held < n → bytes ≡ front ++ (ds ++ 58 ∷ held) → Shallow line outer → Finished bytes 1048640
+text_ended : (n : ℕ) (held : List ℕ) (line : List Item) (outer : List (List Item)) (front ds bytes : List ℕ) → Inside outer line front → Spells ds n → n ≤ STRING_BYTES → length held < n → bytes ≡ front ++ (ds ++ 58 ∷ held) → Shallow line outer → Finished bytes 1048640
 text_ended n held line outer front ds bytes i sp l m e s =
     let fill = replicate (n - length held) 32 in
     let long : length fill ≡ n - length held = length-replicate (n - length held) 32 in
@@ -185,7 +186,7 @@ finished at.Closed held line (around ∷ outer) bytes (none, (front, white, inne
     inr (few bytes _ 1048640 (omega (arith, open_few around outer s.1)) (ended outer around front (40 ∷ (white ++ (inner ++ 41 ∷ []))) bytes (Nested (row line)) e i s.1 (white, inner, w, ss, refl) g (omega (arith, s.0))))
 finished at.Failed held line outer bytes i s = absurd i
 
-begins : (bytes whole rest : List ℕ) (items : List Item) → IsStream whole items → bytes ≡ whole ++ rest → length rest + 1048640 ≤ 33554432 → ((rest ≡ []) ⊎ Finished rest 1048640) → (more : List ℕ) × (others : List Item) × IsStream (bytes ++ more) (items ++ others)
+begins : (bytes whole rest : List ℕ) (items : List Item) → IsStream whole items → bytes ≡ whole ++ rest → length rest + 1048640 ≤ ITEM_BYTES → ((rest ≡ []) ⊎ Finished rest 1048640) → (more : List ℕ) × (others : List Item) × IsStream (bytes ++ more) (items ++ others)
 begins bytes whole rest items st q room (inl n) =
     let e : bytes ++ [] ≡ whole = append-nil bytes ∙ q ∙ ap (λ a. whole ++ a) n ∙ append-nil whole in
     ([], [], subst (λ a. IsStream a (items ++ [])) (sym e) (subst (IsStream whole) (sym (append-nil items)) st))
@@ -194,7 +195,7 @@ begins bytes whole rest items st q room (inr (more, first, x, e, s, f, d, l)) =
     let item : IsItem first x = record { spelled = s; fits = f; depth = d; short = omega (arith, l, room) } in
     (more, x ∷ [], subst (λ a. IsStream a (items ++ x ∷ [])) (sym all) (stream_item items whole first x 32 st item refl))
 
-pub read_goes_on : (bytes : List ℕ) (items : List Item) (r : Reading) → reading (Reads [] begin) bytes ≡ Reads items r → r.count + 1048640 ≤ 33554432 → (more : List ℕ) × (others : List Item) × IsStream (bytes ++ more) (items ++ others)
+pub read_goes_on : (bytes : List ℕ) (items : List Item) (r : Reading) → reading (Reads [] begin) bytes ≡ Reads items r → r.count + 1048640 ≤ ITEM_BYTES → (more : List ℕ) × (others : List Item) × IsStream (bytes ++ more) (items ++ others)
 read_goes_on bytes items r e room =
     let (whole, rest, st, q, i, c, k) = subst (λ s. Spelt s bytes) e (all_spelt bytes) in
     begins bytes whole rest items st q (omega (arith, c, room)) (finished r.place r.held r.row r.outer rest i (subst FlatStream e (run_flat (Reads [] begin) bytes tt)))

@@ -15,6 +15,7 @@ use Rattle.ra_item.specs.Reading.{Step, Next, Gives, Refused, begin, is_nil, is_
 use Rattle.ra_item.specs.Streams.{Stream, Reads, Refuses, of_step, one_byte, reading, is_failed}
 use Rattle.ra_item.specs.Places.{InList, Inside, Opens, Closes, Part, Sound, IsStanding, kept}
 use Rattle.ra_item.specs.Weights.{weigh, weigh_all}
+use Rattle.ra_item.specs.declared.limits.TheConstants.{ITEM_BYTES, STRING_BYTES}
 use Rattle.ra_item.proofs.Runs.{state, lt_false}
 use Rattle.ra_item.proofs.Spelled.{all_short}
 use Rattle.ra_item.proofs.Classes.{both, digit_high, number_after-append}
@@ -126,7 +127,7 @@ if_fine bytes b true x y h k = h refl
 if_fine bytes b false x y h k = k refl
 
 -- an item is whole
-give_fine : (p : Place) (count : ℕ) (held : List ℕ) (line : List Item) (outer : List (List Item)) (front first bytes : List ℕ) (b : ℕ) (x : Item) → Inside outer line front → Spelled first x → Fits x → nesting x ≤ 16 → bytes ≡ front ++ first → count ≡ length bytes → count ≤ 33554432 → is_white b ≡ true → Fine bytes b (give (state p count held line outer) x)
+give_fine : (p : Place) (count : ℕ) (held : List ℕ) (line : List Item) (outer : List (List Item)) (front first bytes : List ℕ) (b : ℕ) (x : Item) → Inside outer line front → Spelled first x → Fits x → nesting x ≤ 16 → bytes ≡ front ++ first → count ≡ length bytes → count ≤ ITEM_BYTES → is_white b ≡ true → Fine bytes b (give (state p count held line outer) x)
 give_fine p count held line [] front first bytes b x i s f d e c k h =
     let g : bytes ≡ first = e ∙ ap (λ a. a ++ first) i.1 in
     (h, record { spelled = subst (λ a. Spelled a x) (sym g) s; fits = f; depth = d; short = omega (arith, c, k) }, (refl, (i.0, refl)), refl)
@@ -169,7 +170,7 @@ start_fine count held line outer bytes b (n, i) c =
     if_fine bytes b (b == 41) _ _ (λ o. closing_fine count held line outer bytes b n i c (eq_from b 41 o)) (λ _. tt)))))
 
 -- in a word
-word_fine : (count : ℕ) (held : List ℕ) (line : List Item) (outer : List (List Item)) (bytes : List ℕ) (b : ℕ) → Part at.Word held line outer bytes → count ≡ length bytes → count ≤ 33554432 → Fine bytes b (in_word (state at.Word count held line outer) b)
+word_fine : (count : ℕ) (held : List ℕ) (line : List Item) (outer : List (List Item)) (bytes : List ℕ) (b : ℕ) → Part at.Word held line outer bytes → count ≡ length bytes → count ≤ ITEM_BYTES → Fine bytes b (in_word (state at.Word count held line outer) b)
 word_fine count held line outer bytes b (front, i, w, l, e) c k =
     let made_so : word_of held ≡ Ok (Word held) = rw (w, lt_false 64 (length held) l) refl in
     if_fine bytes b (is_word_byte b) _ _
@@ -181,12 +182,12 @@ word_fine count held line outer bytes b (front, i, w, l, e) c k =
     (λ _. tt))
 
 -- the colon behind a string's length
-colon_part : (n : ℕ) (line : List Item) (outer : List (List Item)) (front digits bytes : List ℕ) (t : Bool) → (n == 0) ≡ t → Inside outer line front → Spells digits n → n ≤ 1048576 → bytes ≡ front ++ (digits ++ 58 ∷ []) → Part (if t then at.Ended else at.Text n) [] line outer bytes
+colon_part : (n : ℕ) (line : List Item) (outer : List (List Item)) (front digits bytes : List ℕ) (t : Bool) → (n == 0) ≡ t → Inside outer line front → Spells digits n → n ≤ STRING_BYTES → bytes ≡ front ++ (digits ++ 58 ∷ []) → Part (if t then at.Ended else at.Text n) [] line outer bytes
 colon_part n line outer front digits bytes true z i s l e = (front, digits, i, subst (Spells digits) (eq_from n 0 z) s, omega arith, e)
 colon_part n line outer front digits bytes false z i s l e = (front, digits, i, s, l, positive n z, e)
 
 -- behind digits
-number_fine : (n count : ℕ) (held : List ℕ) (line : List Item) (outer : List (List Item)) (bytes : List ℕ) (b : ℕ) → Part (at.Number n) held line outer bytes → count ≡ length bytes → count ≤ 33554432 → Fine bytes b (in_number n (state (at.Number n) count held line outer) b)
+number_fine : (n count : ℕ) (held : List ℕ) (line : List Item) (outer : List (List Item)) (bytes : List ℕ) (b : ℕ) → Part (at.Number n) held line outer bytes → count ≡ length bytes → count ≤ ITEM_BYTES → Fine bytes b (in_number n (state (at.Number n) count held line outer) b)
 number_fine n count held line outer bytes b (front, ds, no_bytes, i, s, small, e) c k =
     let more : bytes ++ b ∷ [] ≡ front ++ (ds ++ b ∷ []) = ap (λ a. a ++ b ∷ []) e ∙ append_assoc front ds (b ∷ []) in
     if_fine bytes b (is_digit b) _ _
@@ -194,14 +195,14 @@ number_fine n count held line outer bytes b (front, ds, no_bytes, i, s, small, e
     (λ lt. inl ((front, ds ++ b ∷ [], no_bytes, i, spells_snoc ds n b s h, lt_from (n * 10 + (b - 48)) 18446744073709551616 lt, more), c))
     (λ _. tt))
     (λ _. if_fine bytes b (b == 58) _ _
-    (λ h. if_fine bytes b (nat_lt 1048576 n) _ _ (λ _. tt)
-    (λ ge. inl (colon_part n line outer front ds (bytes ++ b ∷ []) (n == 0) refl i s (le_from 1048576 n ge) (more ∙ ap (λ x. front ++ (ds ++ x ∷ [])) (eq_from b 58 h)), c)))
+    (λ h. if_fine bytes b (nat_lt STRING_BYTES n) _ _ (λ _. tt)
+    (λ ge. inl (colon_part n line outer front ds (bytes ++ b ∷ []) (n == 0) refl i s (le_from STRING_BYTES n ge) (more ∙ ap (λ x. front ++ (ds ++ x ∷ [])) (eq_from b 58 h)), c)))
     (λ _. if_fine bytes b (is_white b) _ _
     (λ h. give_fine (at.Number n) count held line outer front ds bytes b (Number n) i s small (omega arith) e c k h)
     (λ _. tt)))
 
 -- in a string
-text_part : (n : ℕ) (held : List ℕ) (line : List Item) (outer : List (List Item)) (front digits bytes : List ℕ) (b : ℕ) (t : Bool) → nat_lt (length held + 1) n ≡ t → Inside outer line front → Spells digits n → n ≤ 1048576 → length held < n → bytes ≡ front ++ (digits ++ 58 ∷ (held ++ b ∷ [])) → Part (if t then at.Text n else at.Ended) (held ++ b ∷ []) line outer bytes
+text_part : (n : ℕ) (held : List ℕ) (line : List Item) (outer : List (List Item)) (front digits bytes : List ℕ) (b : ℕ) (t : Bool) → nat_lt (length held + 1) n ≡ t → Inside outer line front → Spells digits n → n ≤ STRING_BYTES → length held < n → bytes ≡ front ++ (digits ++ 58 ∷ (held ++ b ∷ [])) → Part (if t then at.Text n else at.Ended) (held ++ b ∷ []) line outer bytes
 text_part n held line outer front digits bytes b true z i s l m e = (front, digits, i, s, l, omega (arith, lt_from (length held + 1) n z, length-append held (b ∷ [])), e)
 text_part n held line outer front digits bytes b false z i s l m e =
     let q : n ≡ length (held ++ b ∷ []) = omega (arith, le_from (length held + 1) n z, length-append held (b ∷ []), m) in
@@ -215,9 +216,9 @@ text_fine n count held line outer bytes b (front, ds, i, s, l, m, e) c =
       c,
     )
 
-ended_fine : (count : ℕ) (held : List ℕ) (line : List Item) (outer : List (List Item)) (bytes : List ℕ) (b : ℕ) → Part at.Ended held line outer bytes → count ≡ length bytes → count ≤ 33554432 → Fine bytes b (byte_step at.Ended (state at.Ended count held line outer) b)
+ended_fine : (count : ℕ) (held : List ℕ) (line : List Item) (outer : List (List Item)) (bytes : List ℕ) (b : ℕ) → Part at.Ended held line outer bytes → count ≡ length bytes → count ≤ ITEM_BYTES → Fine bytes b (byte_step at.Ended (state at.Ended count held line outer) b)
 ended_fine count held line outer bytes b (front, ds, i, s, l, e) c k =
-    let made_so : text_of held ≡ Ok (Text held) = rw (lt_false 1048576 (length held) l) refl in
+    let made_so : text_of held ≡ Ok (Text held) = rw (lt_false STRING_BYTES (length held) l) refl in
     if_fine bytes b (is_white b) _ _
     (λ h. subst (λ m. Fine bytes b (made (state at.Ended count held line outer) m)) (sym made_so) (give_fine at.Ended count held line outer front (ds ++ 58 ∷ held) bytes b (Text held) i (ds, s, refl) l (omega arith) e c k h))
     (λ _. tt)
@@ -233,20 +234,20 @@ opened_fine count held line (around ∷ outer) bytes b (no_bytes, (front, i, n, 
 pub list_made : (xs : Items) (x : Item) → list_of xs ≡ Ok x → (x ≡ Nested xs) × (nesting (Nested xs) ≤ 16)
 list_made xs x e = made_from (nat_lt 16 (nesting (Nested xs))) (nat_lt 33554433 (length (spell (Nested xs)))) xs x refl e
 
-closed_made : (count : ℕ) (held : List ℕ) (line around : List Item) (outer : List (List Item)) (front first bytes : List ℕ) (b : ℕ) (m : Result Item ItemFault) → list_of (row line) ≡ m → Inside outer around front → Spelled first (Nested (row line)) → AllFit (row line) → bytes ≡ front ++ first → count ≡ length bytes → count ≤ 33554432 → is_white b ≡ true → Fine bytes b (made (state at.Closed count held around outer) m)
+closed_made : (count : ℕ) (held : List ℕ) (line around : List Item) (outer : List (List Item)) (front first bytes : List ℕ) (b : ℕ) (m : Result Item ItemFault) → list_of (row line) ≡ m → Inside outer around front → Spelled first (Nested (row line)) → AllFit (row line) → bytes ≡ front ++ first → count ≡ length bytes → count ≤ ITEM_BYTES → is_white b ≡ true → Fine bytes b (made (state at.Closed count held around outer) m)
 closed_made count held line around outer front first bytes b (Err f) q i s g e c k h = tt
 closed_made count held line around outer front first bytes b (Ok x) q i s g e c k h =
     let l = list_made (row line) x q in
     subst (λ y. Fine bytes b (give (state at.Closed count held around outer) y)) (sym l.0) (give_fine at.Closed count held around outer front first bytes b (Nested (row line)) i s g l.1 e c k h)
 
-closed_fine : (count : ℕ) (held : List ℕ) (line : List Item) (outer : List (List Item)) (bytes : List ℕ) (b : ℕ) → Part at.Closed held line outer bytes → count ≡ length bytes → count ≤ 33554432 → Fine bytes b (byte_step at.Closed (state at.Closed count held line outer) b)
+closed_fine : (count : ℕ) (held : List ℕ) (line : List Item) (outer : List (List Item)) (bytes : List ℕ) (b : ℕ) → Part at.Closed held line outer bytes → count ≡ length bytes → count ≤ ITEM_BYTES → Fine bytes b (byte_step at.Closed (state at.Closed count held line outer) b)
 closed_fine count held line [] bytes b o c k = absurd o.1
 closed_fine count held line (around ∷ outer) bytes b (no_bytes, (front, white, inner, i, w, s, g, e)) c k =
     if_fine bytes b (is_white b) _ _
     (λ h. closed_made count held line around outer front (40 ∷ (white ++ (inner ++ 41 ∷ []))) bytes b (list_of (row line)) refl i (white, inner, w, s, refl) g e c k h)
     (λ _. tt)
 
-pub byte_fine : (p : Place) (count : ℕ) (held : List ℕ) (line : List Item) (outer : List (List Item)) (bytes : List ℕ) (b : ℕ) → Part p held line outer bytes → count ≡ length bytes → count ≤ 33554432 → Fine bytes b (byte_step p (state p count held line outer) b)
+pub byte_fine : (p : Place) (count : ℕ) (held : List ℕ) (line : List Item) (outer : List (List Item)) (bytes : List ℕ) (b : ℕ) → Part p held line outer bytes → count ≡ length bytes → count ≤ ITEM_BYTES → Fine bytes b (byte_step p (state p count held line outer) b)
 byte_fine at.Between count held line outer bytes b i c k = start_fine count held line outer bytes b i c
 byte_fine at.Opened count held line outer bytes b i c k = opened_fine count held line outer bytes b i c
 byte_fine at.Word count held line outer bytes b i c k = word_fine count held line outer bytes b i c k
@@ -258,7 +259,7 @@ byte_fine at.Failed count held line outer bytes b i c k = tt
 
 -- the same with the count
 abbrev Good : List ℕ → ℕ → Step → Type 0
-Good bytes b (Next r) = (PartOf r (bytes ++ b ∷ []) × (r.count ≡ length bytes + 1) × (r.count ≤ 33554432)) ⊎ ((is_white b ≡ true) × (bytes ≡ []) × PartOf r [] × (r.count ≡ 0))
+Good bytes b (Next r) = (PartOf r (bytes ++ b ∷ []) × (r.count ≡ length bytes + 1) × (r.count ≤ ITEM_BYTES)) ⊎ ((is_white b ≡ true) × (bytes ≡ []) × PartOf r [] × (r.count ≡ 0))
 Good bytes b (Gives x r) = (is_white b ≡ true) × IsItem bytes x × PartOf r [] × (r.count ≡ 0)
 Good bytes b (Refused f) = Unit {0}
 
@@ -276,16 +277,16 @@ not_between at.Ended count held line outer bytes b i = refl
 not_between at.Closed count held line outer bytes b i = refl
 not_between at.Failed count held line outer bytes b i = refl
 
-next_good : (bytes : List ℕ) (b : ℕ) (r : Reading) (t : Bool) → nat_lt r.count 33554432 ≡ t → PartOf r (bytes ++ b ∷ []) → r.count ≡ length bytes → Good bytes b (if t then Next (record r { count = r.count + 1 }) else Refused TooLong)
-next_good bytes b r true z i c = inl (i, omega (arith, c), omega (arith, lt_from r.count 33554432 z))
+next_good : (bytes : List ℕ) (b : ℕ) (r : Reading) (t : Bool) → nat_lt r.count ITEM_BYTES ≡ t → PartOf r (bytes ++ b ∷ []) → r.count ≡ length bytes → Good bytes b (if t then Next (record r { count = r.count + 1 }) else Refused TooLong)
+next_good bytes b r true z i c = inl (i, omega (arith, c), omega (arith, lt_from r.count ITEM_BYTES z))
 next_good bytes b r false z i c = tt
 
 counted_good : (bytes : List ℕ) (b : ℕ) (s : Step) → Fine bytes b s → Good bytes b (counted s)
 counted_good bytes b (Next r) (inl g) =
-    subst (λ t. Good bytes b (if t then Next r else if nat_lt r.count 33554432 then Next (record r { count = r.count + 1 }) else Refused TooLong)) (sym (not_between r.place r.count r.held r.row r.outer bytes b g.0))
-    (next_good bytes b r (nat_lt r.count 33554432) refl g.0 g.1)
+    subst (λ t. Good bytes b (if t then Next r else if nat_lt r.count ITEM_BYTES then Next (record r { count = r.count + 1 }) else Refused TooLong)) (sym (not_between r.place r.count r.held r.row r.outer bytes b g.0))
+    (next_good bytes b r (nat_lt r.count ITEM_BYTES) refl g.0 g.1)
 counted_good bytes b (Next r) (inr g) =
-    subst (λ t. Good bytes b (if t then Next r else if nat_lt r.count 33554432 then Next (record r { count = r.count + 1 }) else Refused TooLong)) (sym g.2) (inr (g.0, g.1, g.3, g.4))
+    subst (λ t. Good bytes b (if t then Next r else if nat_lt r.count ITEM_BYTES then Next (record r { count = r.count + 1 }) else Refused TooLong)) (sym g.2) (inr (g.0, g.1, g.3, g.4))
 counted_good bytes b (Gives x r) g = g
 counted_good bytes b (Refused f) g = tt
 
@@ -313,7 +314,7 @@ stream_item xs bytes first x b (blank, rest, w, r, e) s h =
 
 -- what was read so far is spelled by the bytes so far
 abbrev pub Spelt : Stream → List ℕ → Type 0
-Spelt (Reads items r) bytes = (whole rest : List ℕ) × IsStream whole items × (bytes ≡ whole ++ rest) × PartOf r rest × (r.count ≡ length rest) × (r.count ≤ 33554432)
+Spelt (Reads items r) bytes = (whole rest : List ℕ) × IsStream whole items × (bytes ≡ whole ++ rest) × PartOf r rest × (r.count ≡ length rest) × (r.count ≤ ITEM_BYTES)
 Spelt (Refuses items f) bytes = (whole rest : List ℕ) × IsStream whole items × (bytes ≡ whole ++ rest)
 
 step_spelt : (items : List Item) (whole rest bytes : List ℕ) (b : ℕ) (s : Step) → IsStream whole items → bytes ≡ whole ++ rest → Good rest b s → Spelt (of_step items s) (bytes ++ b ∷ [])
@@ -338,7 +339,7 @@ run_spelt s before (b ∷ bytes) h = subst (Spelt (reading (one_byte s b) bytes)
 pub all_spelt : (bytes : List ℕ) → Spelt (reading (Reads [] begin) bytes) bytes
 all_spelt bytes = run_spelt (Reads [] begin) [] bytes ([], [], ([], [], refl, refl, refl), refl, (refl, (refl, refl)), refl, omega arith)
 
-pub read_is_spelled : (bytes : List ℕ) (items : List Item) (r : Reading) → reading (Reads [] begin) bytes ≡ Reads items r → (whole rest : List ℕ) × IsStream whole items × (bytes ≡ whole ++ rest) × (r.count ≡ length rest) × (length rest ≤ 33554432)
+pub read_is_spelled : (bytes : List ℕ) (items : List Item) (r : Reading) → reading (Reads [] begin) bytes ≡ Reads items r → (whole rest : List ℕ) × IsStream whole items × (bytes ≡ whole ++ rest) × (r.count ≡ length rest) × (length rest ≤ ITEM_BYTES)
 read_is_spelled bytes items r e =
     let (whole, rest, st, q, i, c, k) = subst (λ s. Spelt s bytes) e (all_spelt bytes) in
     (whole, rest, st, q, c, omega (arith, c, k))
@@ -391,9 +392,9 @@ part_kept at.Failed held line outer bytes i = absurd i
 sound_kept : (r : Reading) → Sound r → kept r ≤ r.count
 sound_kept r s = omega (arith, part_kept r.place r.held r.row r.outer s.bytes s.part, s.count)
 
-pub standing_kept : (r : Reading) → IsStanding r → (kept r ≤ r.count) × (r.count ≤ 33554432)
+pub standing_kept : (r : Reading) → IsStanding r → (kept r ≤ r.count) × (r.count ≤ ITEM_BYTES)
 standing_kept r (inl s) = (sound_kept r s, s.short)
-standing_kept r (inr e) = subst (λ (x : Reading). (kept x ≤ x.count) × (x.count ≤ 33554432)) (sym e) (omega arith, omega arith)
+standing_kept r (inr e) = subst (λ (x : Reading). (kept x ≤ x.count) × (x.count ≤ ITEM_BYTES)) (sym e) (omega arith, omega arith)
 
 pub standing_sound : (r : Reading) → IsStanding r → is_failed r ≡ false → Sound r
 standing_sound r (inl s) e = s

@@ -11,6 +11,7 @@ use Rattle.ra_item.specs.declared.reading.Place.TheVariants as at
 use Rattle.ra_item.specs.declared.reading.Reading.{Reading}
 use Rattle.ra_item.specs.Reading.{Next, one_step, held_more}
 use Rattle.ra_item.specs.Streams.{Stream, Reads, Refuses, of_step, one_byte, reading, MayKeep, StreamIs}
+use Rattle.ra_item.specs.declared.limits.TheConstants.{ITEM_BYTES}
 
 -- pieces don't matter
 pub reading-append : (s : Stream) (a b : List ℕ) → reading s (a ++ b) ≡ reading (reading s a) b
@@ -32,7 +33,7 @@ abbrev pub state : Place → ℕ → List ℕ → List Item → List (List Item)
 state place count held row outer = record { place = place; count = count; held = held; row = row; outer = outer }
 
 -- the bytes of a string, but its last, are kept
-pub stretch : (items : List Item) (n count : ℕ) (held : List ℕ) (row : List Item) (outer : List (List Item)) (s more : List ℕ) → (0 < length s → length held + length s < n) → (0 < length s → count + length s ≤ 33554432) → reading (Reads items (state (at.Text n) count held row outer)) (s ++ more) ≡ reading (Reads items (state (at.Text n) (count + length s) (held ++ s) row outer)) more
+pub stretch : (items : List Item) (n count : ℕ) (held : List ℕ) (row : List Item) (outer : List (List Item)) (s more : List ℕ) → (0 < length s → length held + length s < n) → (0 < length s → count + length s ≤ ITEM_BYTES) → reading (Reads items (state (at.Text n) count held row outer)) (s ++ more) ≡ reading (Reads items (state (at.Text n) (count + length s) (held ++ s) row outer)) more
 stretch items n count held row outer [] more h k =
     let z : count + length {A = ℕ} [] ≡ count = omega arith in
     rw (z, append-nil) refl
@@ -40,14 +41,14 @@ stretch items n count held row outer (b ∷ s) more h k =
     let l = h (omega arith) in
     let m = k (omega arith) in
     let p : nat_lt (length held + 1) n ≡ true = lt_true _ _ (omega arith) in
-    let q : nat_lt count 33554432 ≡ true = lt_true _ _ (omega arith) in
+    let q : nat_lt count ITEM_BYTES ≡ true = lt_true _ _ (omega arith) in
     let z : count + 1 + length s ≡ count + length (b ∷ s) = omega arith in
     let e : one_step (state (at.Text n) count held row outer) b ≡ Next (state (at.Text n) (count + 1) (held ++ b ∷ []) row outer) = rw (p, q) refl in
     ap (λ t. reading (of_step items t) (s ++ more)) e
     ∙ stretch items n (count + 1) (held ++ b ∷ []) row outer s more (λ x. omega (arith, l, length-append held (b ∷ []))) (λ x. omega (arith, m))
     ∙ rw (z, append_assoc) refl
 
-pub may_keep_text : (r : Reading) (n k : ℕ) → r.place ≡ at.Text n → (0 < k → length r.held + k < n) → (0 < k → r.count + k ≤ 33554432) → MayKeep r k
+pub may_keep_text : (r : Reading) (n k : ℕ) → r.place ≡ at.Text n → (0 < k → length r.held + k < n) → (0 < k → r.count + k ≤ ITEM_BYTES) → MayKeep r k
 may_keep_text r n k e h l =
     λ items s more m. subst (λ p. reading (Reads items (state p r.count r.held r.row r.outer)) (s ++ more) ≡ reading (Reads items (state p (r.count + length s) (r.held ++ s) r.row r.outer)) more) (sym e)
     (stretch items n r.count r.held r.row r.outer s more (λ x. omega (arith, h (omega arith))) (λ x. omega (arith, l (omega arith))))

@@ -10,6 +10,7 @@ use Rattle.ra_item.specs.declared.reading.Place.TheVariants as at
 use Rattle.ra_item.specs.declared.reading.Reading.{Reading}
 use Rattle.ra_item.specs.Reading.{Next, begin, give, made, counted, one_step}
 use Rattle.ra_item.specs.Streams.{Stream, Reads, of_step, reading}
+use Rattle.ra_item.specs.declared.limits.TheConstants.{ITEM_BYTES, STRING_BYTES}
 use Rattle.ra_item.proofs.Runs.{state, lt_true, lt_false}
 use Rattle.ra_item.proofs.Classes.{both, white_no_digit, white_no_word, white_no_colon, digit_no_white, digit_no_letter, letter_no_white, number_after-ge, decimal_shortest}
 
@@ -22,14 +23,14 @@ abbrev pub given : List Item → ℕ → List Item → List (List Item) → Item
 given items count line outer x = of_step items (counted (give (state at.Between count [] line outer) x))
 
 -- inner bytes of a word
-word_bytes : (items : List Item) (count : ℕ) (held : List ℕ) (line : List Item) (outer : List (List Item)) (s more : List ℕ) → all_bytes is_word_byte s ≡ true → length held + length s ≤ 64 → count + length s ≤ 33554432 → reading (Reads items (state at.Word count held line outer)) (s ++ more) ≡ reading (Reads items (state at.Word (count + length s) (held ++ s) line outer)) more
+word_bytes : (items : List Item) (count : ℕ) (held : List ℕ) (line : List Item) (outer : List (List Item)) (s more : List ℕ) → all_bytes is_word_byte s ≡ true → length held + length s ≤ 64 → count + length s ≤ ITEM_BYTES → reading (Reads items (state at.Word count held line outer)) (s ++ more) ≡ reading (Reads items (state at.Word (count + length s) (held ++ s) line outer)) more
 word_bytes items count held line outer [] more e h k =
     let z : count + length {A = ℕ} [] ≡ count = omega arith in
     rw (z, append-nil) refl
 word_bytes items count held line outer (b ∷ s) more e h k =
     let p = both (is_word_byte b) (all_bytes is_word_byte s) e in
     let z : count + 1 + length s ≡ count + length (b ∷ s) = omega arith in
-    goes items (state at.Word count held line outer) b (state at.Word (count + 1) (held ++ b ∷ []) line outer) (s ++ more) (rw (p.0, lt_true (length held) 64 (omega arith), lt_true count 33554432 (omega arith)) refl)
+    goes items (state at.Word count held line outer) b (state at.Word (count + 1) (held ++ b ∷ []) line outer) (s ++ more) (rw (p.0, lt_true (length held) 64 (omega arith), lt_true count ITEM_BYTES (omega arith)) refl)
     ∙ word_bytes items (count + 1) (held ++ b ∷ []) line outer s more p.1 (omega (arith, h, length-append held (b ∷ []))) (omega arith)
     ∙ rw (z, append_assoc) refl
 
@@ -39,18 +40,18 @@ word_ends items count held line outer w more e h white =
     let step : one_step (state at.Word count held line outer) w ≡ counted (made (state at.Word count held line outer) (word_of held)) = rw (white_no_word w white, white) refl in
     ap (λ s. reading (of_step items s) more) (step ∙ ap (λ m. counted (made (state at.Word count held line outer) m)) made_so)
 
-word_read : (items : List Item) (count : ℕ) (line : List Item) (outer : List (List Item)) (word : List ℕ) (w : ℕ) (more : List ℕ) → is_word word ≡ true → length word ≤ 64 → is_white w ≡ true → count + length word ≤ 33554432 → reading (Reads items (state at.Between count [] line outer)) (word ++ w ∷ more) ≡ reading (given items (count + length word) line outer (Word word)) more
+word_read : (items : List Item) (count : ℕ) (line : List Item) (outer : List (List Item)) (word : List ℕ) (w : ℕ) (more : List ℕ) → is_word word ≡ true → length word ≤ 64 → is_white w ≡ true → count + length word ≤ ITEM_BYTES → reading (Reads items (state at.Between count [] line outer)) (word ++ w ∷ more) ≡ reading (given items (count + length word) line outer (Word word)) more
 word_read items count line outer [] w more e h white k = cc
 word_read items count line outer (b ∷ bs) w more e h white k =
     let p = both (is_letter b) (all_bytes is_word_byte bs) e in
     let z : count + 1 + length bs ≡ count + length (b ∷ bs) = omega arith in
-    goes items (state at.Between count [] line outer) b (state at.Word (count + 1) (b ∷ []) line outer) (bs ++ w ∷ more) (rw (letter_no_white b p.0, p.0, lt_true count 33554432 (omega arith)) refl)
+    goes items (state at.Between count [] line outer) b (state at.Word (count + 1) (b ∷ []) line outer) (bs ++ w ∷ more) (rw (letter_no_white b p.0, p.0, lt_true count ITEM_BYTES (omega arith)) refl)
     ∙ word_bytes items (count + 1) (b ∷ []) line outer bs (w ∷ more) p.1 (omega arith) (omega arith)
     ∙ word_ends items (count + 1 + length bs) (b ∷ bs) line outer w more e h white
     ∙ ap (λ c. reading (given items c line outer (Word (b ∷ bs))) more) z
 
 -- digits
-number_bytes : (items : List Item) (count n : ℕ) (held : List ℕ) (line : List Item) (outer : List (List Item)) (ds more : List ℕ) → all_bytes is_digit ds ≡ true → number_after n ds < 2 ^ 64 → count + length ds ≤ 33554432 → reading (Reads items (state (at.Number n) count held line outer)) (ds ++ more) ≡ reading (Reads items (state (at.Number (number_after n ds)) (count + length ds) held line outer)) more
+number_bytes : (items : List Item) (count n : ℕ) (held : List ℕ) (line : List Item) (outer : List (List Item)) (ds more : List ℕ) → all_bytes is_digit ds ≡ true → number_after n ds < 2 ^ 64 → count + length ds ≤ ITEM_BYTES → reading (Reads items (state (at.Number n) count held line outer)) (ds ++ more) ≡ reading (Reads items (state (at.Number (number_after n ds)) (count + length ds) held line outer)) more
 number_bytes items count n held line outer [] more e h k =
     let z : count + length {A = ℕ} [] ≡ count = omega arith in
     rw z refl
@@ -58,18 +59,18 @@ number_bytes items count n held line outer (d ∷ ds) more e h k =
     let p = both (is_digit d) (all_bytes is_digit ds) e in
     let z : count + 1 + length ds ≡ count + length (d ∷ ds) = omega arith in
     let g = number_after-ge (n * 10 + (d - 48)) ds in
-    goes items (state (at.Number n) count held line outer) d (state (at.Number (n * 10 + (d - 48))) (count + 1) held line outer) (ds ++ more) (rw (p.0, lt_true (n * 10 + (d - 48)) 18446744073709551616 (omega arith), lt_true count 33554432 (omega arith)) refl)
+    goes items (state (at.Number n) count held line outer) d (state (at.Number (n * 10 + (d - 48))) (count + 1) held line outer) (ds ++ more) (rw (p.0, lt_true (n * 10 + (d - 48)) 18446744073709551616 (omega arith), lt_true count ITEM_BYTES (omega arith)) refl)
     ∙ number_bytes items (count + 1) (n * 10 + (d - 48)) held line outer ds more p.1 h (omega arith)
     ∙ rw z refl
 
-digits_read : (items : List Item) (count n : ℕ) (line : List Item) (outer : List (List Item)) (ds more : List ℕ) → Spells ds n → n < 2 ^ 64 → count + length ds ≤ 33554432 → reading (Reads items (state at.Between count [] line outer)) (ds ++ more) ≡ reading (Reads items (state (at.Number n) (count + length ds) [] line outer)) more
+digits_read : (items : List Item) (count n : ℕ) (line : List Item) (outer : List (List Item)) (ds more : List ℕ) → Spells ds n → n < 2 ^ 64 → count + length ds ≤ ITEM_BYTES → reading (Reads items (state at.Between count [] line outer)) (ds ++ more) ≡ reading (Reads items (state (at.Number n) (count + length ds) [] line outer)) more
 digits_read items count n line outer [] more s h k = absurd (omega (arith, s.some))
 digits_read items count n line outer (d ∷ ds) more s h k =
     let p = both (is_digit d) (all_bytes is_digit ds) s.digits_only in
     let y : 0 * 10 + (d - 48) ≡ d - 48 = omega arith in
     let e : number_after (d - 48) ds ≡ n = rw y at s.number in
     let z : count + 1 + length ds ≡ count + length (d ∷ ds) = omega arith in
-    goes items (state at.Between count [] line outer) d (state (at.Number (d - 48)) (count + 1) [] line outer) (ds ++ more) (rw (digit_no_white d p.0, digit_no_letter d p.0, p.0, lt_true count 33554432 (omega arith)) refl)
+    goes items (state at.Between count [] line outer) d (state (at.Number (d - 48)) (count + 1) [] line outer) (ds ++ more) (rw (digit_no_white d p.0, digit_no_letter d p.0, p.0, lt_true count ITEM_BYTES (omega arith)) refl)
     ∙ number_bytes items (count + 1) (d - 48) [] line outer ds more p.1 (omega (arith, e, h)) (omega arith)
     ∙ rw (z, e) refl
 
@@ -78,40 +79,40 @@ number_ends items count n line outer w more white =
     ap (λ s. reading (of_step items s) more) (rw (white_no_digit w white, white_no_colon w white, white) refl)
 
 -- bytes of a string that isn't empty
-text_bytes : (items : List Item) (n count : ℕ) (held : List ℕ) (line : List Item) (outer : List (List Item)) (s more : List ℕ) → 0 < length s → length held + length s ≡ n → count + length s ≤ 33554432 → reading (Reads items (state (at.Text n) count held line outer)) (s ++ more) ≡ reading (Reads items (state at.Ended (count + length s) (held ++ s) line outer)) more
+text_bytes : (items : List Item) (n count : ℕ) (held : List ℕ) (line : List Item) (outer : List (List Item)) (s more : List ℕ) → 0 < length s → length held + length s ≡ n → count + length s ≤ ITEM_BYTES → reading (Reads items (state (at.Text n) count held line outer)) (s ++ more) ≡ reading (Reads items (state at.Ended (count + length s) (held ++ s) line outer)) more
 text_bytes items n count held line outer [] more some e k = absurd (omega arith)
 text_bytes items n count held line outer (b ∷ []) more some e k =
-    goes items (state (at.Text n) count held line outer) b (state at.Ended (count + 1) (held ++ b ∷ []) line outer) more (rw (lt_false (length held + 1) n (omega arith), lt_true count 33554432 (omega arith)) refl)
+    goes items (state (at.Text n) count held line outer) b (state at.Ended (count + 1) (held ++ b ∷ []) line outer) more (rw (lt_false (length held + 1) n (omega arith), lt_true count ITEM_BYTES (omega arith)) refl)
 text_bytes items n count held line outer (b ∷ c ∷ s) more some e k =
     let z : count + 1 + length (c ∷ s) ≡ count + length (b ∷ c ∷ s) = omega arith in
-    goes items (state (at.Text n) count held line outer) b (state (at.Text n) (count + 1) (held ++ b ∷ []) line outer) (c ∷ s ++ more) (rw (lt_true (length held + 1) n (omega arith), lt_true count 33554432 (omega arith)) refl)
+    goes items (state (at.Text n) count held line outer) b (state (at.Text n) (count + 1) (held ++ b ∷ []) line outer) (c ∷ s ++ more) (rw (lt_true (length held + 1) n (omega arith), lt_true count ITEM_BYTES (omega arith)) refl)
     ∙ text_bytes items n (count + 1) (held ++ b ∷ []) line outer (c ∷ s) more (omega arith) (omega (arith, e, length-append held (b ∷ []))) (omega arith)
     ∙ rw (z, append_assoc) refl
 
 -- the colon and the bytes of a string
-text_inner : (items : List Item) (count : ℕ) (line : List Item) (outer : List (List Item)) (t more : List ℕ) → length t ≤ 1048576 → count + 1 + length t ≤ 33554432 → reading (Reads items (state (at.Number (length t)) count [] line outer)) (58 ∷ (t ++ more)) ≡ reading (Reads items (state at.Ended (count + 1 + length t) t line outer)) more
+text_inner : (items : List Item) (count : ℕ) (line : List Item) (outer : List (List Item)) (t more : List ℕ) → length t ≤ STRING_BYTES → count + 1 + length t ≤ ITEM_BYTES → reading (Reads items (state (at.Number (length t)) count [] line outer)) (58 ∷ (t ++ more)) ≡ reading (Reads items (state at.Ended (count + 1 + length t) t line outer)) more
 text_inner items count line outer [] more h k =
     let z : count + 1 + length {A = ℕ} [] ≡ count + 1 = omega arith in
-    goes items (state (at.Number 0) count [] line outer) 58 (state at.Ended (count + 1) [] line outer) more (rw (lt_true count 33554432 (omega arith)) refl)
+    goes items (state (at.Number 0) count [] line outer) 58 (state at.Ended (count + 1) [] line outer) more (rw (lt_true count ITEM_BYTES (omega arith)) refl)
     ∙ rw z refl
 text_inner items count line outer (b ∷ t) more h k =
     let nonzero : (length (b ∷ t) == 0) ≡ false = grind (arith, nat_tests) in
-    goes items (state (at.Number (length (b ∷ t))) count [] line outer) 58 (state (at.Text (length (b ∷ t))) (count + 1) [] line outer) (b ∷ t ++ more) (rw (lt_false 1048576 (length (b ∷ t)) h, nonzero, lt_true count 33554432 (omega arith)) refl)
+    goes items (state (at.Number (length (b ∷ t))) count [] line outer) 58 (state (at.Text (length (b ∷ t))) (count + 1) [] line outer) (b ∷ t ++ more) (rw (lt_false STRING_BYTES (length (b ∷ t)) h, nonzero, lt_true count ITEM_BYTES (omega arith)) refl)
     ∙ text_bytes items (length (b ∷ t)) (count + 1) [] line outer (b ∷ t) more (omega arith) (omega arith) (omega arith)
 
-text_ends : (items : List Item) (count : ℕ) (t : List ℕ) (line : List Item) (outer : List (List Item)) (w : ℕ) (more : List ℕ) → length t ≤ 1048576 → is_white w ≡ true → reading (Reads items (state at.Ended count t line outer)) (w ∷ more) ≡ reading (given items count line outer (Text t)) more
+text_ends : (items : List Item) (count : ℕ) (t : List ℕ) (line : List Item) (outer : List (List Item)) (w : ℕ) (more : List ℕ) → length t ≤ STRING_BYTES → is_white w ≡ true → reading (Reads items (state at.Ended count t line outer)) (w ∷ more) ≡ reading (given items count line outer (Text t)) more
 text_ends items count t line outer w more h white =
-    ap (λ s. reading (of_step items s) more) (rw (white, lt_false 1048576 (length t) h) refl)
+    ap (λ s. reading (of_step items s) more) (rw (white, lt_false STRING_BYTES (length t) h) refl)
 
 -- white space inside a list
-white_inside : (items : List Item) (count : ℕ) (line around : List Item) (outer : List (List Item)) (ws more : List ℕ) → AllWhite ws → count + length ws ≤ 33554432 → reading (Reads items (state at.Between count [] line (around ∷ outer))) (ws ++ more) ≡ reading (Reads items (state at.Between (count + length ws) [] line (around ∷ outer))) more
+white_inside : (items : List Item) (count : ℕ) (line around : List Item) (outer : List (List Item)) (ws more : List ℕ) → AllWhite ws → count + length ws ≤ ITEM_BYTES → reading (Reads items (state at.Between count [] line (around ∷ outer))) (ws ++ more) ≡ reading (Reads items (state at.Between (count + length ws) [] line (around ∷ outer))) more
 white_inside items count line around outer [] more e k =
     let z : count + length {A = ℕ} [] ≡ count = omega arith in
     rw z refl
 white_inside items count line around outer (w ∷ ws) more e k =
     let p = both (is_white w) (all_bytes is_white ws) e in
     let z : count + 1 + length ws ≡ count + length (w ∷ ws) = omega arith in
-    goes items (state at.Between count [] line (around ∷ outer)) w (state at.Between (count + 1) [] line (around ∷ outer)) (ws ++ more) (rw (p.0, lt_true count 33554432 (omega arith)) refl)
+    goes items (state at.Between count [] line (around ∷ outer)) w (state at.Between (count + 1) [] line (around ∷ outer)) (ws ++ more) (rw (p.0, lt_true count ITEM_BYTES (omega arith)) refl)
     ∙ white_inside items (count + 1) line around outer ws more p.1 (omega arith)
     ∙ rw z refl
 
@@ -151,28 +152,28 @@ pub list_made : (xs : Items) → deepest xs + 1 ≤ 16 → length (spell (Nested
 list_made xs d l = ap list_of (row_listed xs) ∙ rw (lt_false 16 (deepest xs + 1) d, lt_false 33554433 (length (spell (Nested xs))) l) refl
 
 -- an item inside a list is whole
-given_inside : (items : List Item) (count : ℕ) (line around : List Item) (outer : List (List Item)) (x : Item) → count < 33554432 → given items count line (around ∷ outer) x ≡ Reads items (state at.Between (count + 1) [] (line ++ x ∷ []) (around ∷ outer))
-given_inside items count line around outer x h = rw (lt_true count 33554432 h) refl
+given_inside : (items : List Item) (count : ℕ) (line around : List Item) (outer : List (List Item)) (x : Item) → count < ITEM_BYTES → given items count line (around ∷ outer) x ≡ Reads items (state at.Between (count + 1) [] (line ++ x ∷ []) (around ∷ outer))
+given_inside items count line around outer x h = rw (lt_true count ITEM_BYTES h) refl
 
 -- a list, from its first bracket to the white space behind it
-list_opens : (items : List Item) (count : ℕ) (line : List Item) (outer : List (List Item)) (white more : List ℕ) → IsWhite white → length outer < 16 → count + 1 + length white ≤ 33554432 → reading (Reads items (state at.Between count [] line outer)) (40 ∷ (white ++ more)) ≡ reading (Reads items (state at.Between (count + 1 + length white) [] [] (line ∷ outer))) more
+list_opens : (items : List Item) (count : ℕ) (line : List Item) (outer : List (List Item)) (white more : List ℕ) → IsWhite white → length outer < 16 → count + 1 + length white ≤ ITEM_BYTES → reading (Reads items (state at.Between count [] line outer)) (40 ∷ (white ++ more)) ≡ reading (Reads items (state at.Between (count + 1 + length white) [] [] (line ∷ outer))) more
 list_opens items count line outer [] more e d k = absurd (omega (arith, e.0))
 list_opens items count line outer (w ∷ ws) more e d k =
     let p = both (is_white w) (all_bytes is_white ws) e.1 in
     let z : count + 1 + 1 + length ws ≡ count + 1 + length (w ∷ ws) = omega arith in
-    goes items (state at.Between count [] line outer) 40 (state at.Opened (count + 1) [] [] (line ∷ outer)) (w ∷ ws ++ more) (rw (lt_true (length outer) 16 d, lt_true count 33554432 (omega arith)) refl)
-    ∙ goes items (state at.Opened (count + 1) [] [] (line ∷ outer)) w (state at.Between (count + 1 + 1) [] [] (line ∷ outer)) (ws ++ more) (rw (p.0, lt_true (count + 1) 33554432 (omega arith)) refl)
+    goes items (state at.Between count [] line outer) 40 (state at.Opened (count + 1) [] [] (line ∷ outer)) (w ∷ ws ++ more) (rw (lt_true (length outer) 16 d, lt_true count ITEM_BYTES (omega arith)) refl)
+    ∙ goes items (state at.Opened (count + 1) [] [] (line ∷ outer)) w (state at.Between (count + 1 + 1) [] [] (line ∷ outer)) (ws ++ more) (rw (p.0, lt_true (count + 1) ITEM_BYTES (omega arith)) refl)
     ∙ white_inside items (count + 1 + 1) [] line outer ws more p.1 (omega arith)
     ∙ rw z refl
 
-list_ends : (items : List Item) (count : ℕ) (xs : Items) (line : List Item) (outer : List (List Item)) (w : ℕ) (more : List ℕ) → is_white w ≡ true → count + 1 ≤ 33554432 → list_of (row (listed xs)) ≡ Ok (Nested xs) → reading (Reads items (state at.Between count [] (listed xs) (line ∷ outer))) (41 ∷ w ∷ more) ≡ reading (given items (count + 1) line outer (Nested xs)) more
+list_ends : (items : List Item) (count : ℕ) (xs : Items) (line : List Item) (outer : List (List Item)) (w : ℕ) (more : List ℕ) → is_white w ≡ true → count + 1 ≤ ITEM_BYTES → list_of (row (listed xs)) ≡ Ok (Nested xs) → reading (Reads items (state at.Between count [] (listed xs) (line ∷ outer))) (41 ∷ w ∷ more) ≡ reading (given items (count + 1) line outer (Nested xs)) more
 list_ends items count xs line outer w more white k e =
     let step : one_step (state at.Closed (count + 1) [] (listed xs) (line ∷ outer)) w ≡ counted (made (state at.Closed (count + 1) [] line outer) (list_of (row (listed xs)))) = rw white refl in
-    goes items (state at.Between count [] (listed xs) (line ∷ outer)) 41 (state at.Closed (count + 1) [] (listed xs) (line ∷ outer)) (w ∷ more) (rw (lt_true count 33554432 (omega arith)) refl)
+    goes items (state at.Between count [] (listed xs) (line ∷ outer)) 41 (state at.Closed (count + 1) [] (listed xs) (line ∷ outer)) (w ∷ more) (rw (lt_true count ITEM_BYTES (omega arith)) refl)
     ∙ ap (λ s. reading (of_step items s) more) (step ∙ ap (λ m. counted (made (state at.Closed (count + 1) [] line outer) m)) e)
 
 mutual
-  pub item_read : (x : Item) (bytes : List ℕ) (items : List Item) (count : ℕ) (line : List Item) (outer : List (List Item)) (w : ℕ) (more : List ℕ) → Spelled bytes x → Fits x → nesting x + length outer ≤ 16 → is_white w ≡ true → count + length bytes ≤ 33554432 → reading (Reads items (state at.Between count [] line outer)) (bytes ++ w ∷ more) ≡ reading (given items (count + length bytes) line outer x) more
+  pub item_read : (x : Item) (bytes : List ℕ) (items : List Item) (count : ℕ) (line : List Item) (outer : List (List Item)) (w : ℕ) (more : List ℕ) → Spelled bytes x → Fits x → nesting x + length outer ≤ 16 → is_white w ≡ true → count + length bytes ≤ ITEM_BYTES → reading (Reads items (state at.Between count [] line outer)) (bytes ++ w ∷ more) ≡ reading (given items (count + length bytes) line outer x) more
   item_read (Word word) bytes items count line outer w more e f d white k =
       ap (λ b. reading (Reads items (state at.Between count [] line outer)) (b ++ w ∷ more)) e
       ∙ word_read items count line outer word w more f.0 f.1 white (omega (arith, ap length e, k))
@@ -200,7 +201,7 @@ mutual
       ∙ list_ends items (count + 1 + length blank + length inner) xs line outer w more white (omega arith) (list_made xs (omega (arith, d)) (omega (arith, short)))
       ∙ ap (λ c. reading (given items c line outer (Nested xs)) more) z
 
-  pub all_read : (xs : Items) (bytes : List ℕ) (items : List Item) (count : ℕ) (line around : List Item) (outer : List (List Item)) (more : List ℕ) → AllSpelled bytes xs → AllFit xs → deepest xs + (1 + length outer) ≤ 16 → count + length bytes ≤ 33554432 → reading (Reads items (state at.Between count [] line (around ∷ outer))) (bytes ++ more) ≡ reading (Reads items (state at.Between (count + length bytes) [] (line ++ listed xs) (around ∷ outer))) more
+  pub all_read : (xs : Items) (bytes : List ℕ) (items : List Item) (count : ℕ) (line around : List Item) (outer : List (List Item)) (more : List ℕ) → AllSpelled bytes xs → AllFit xs → deepest xs + (1 + length outer) ≤ 16 → count + length bytes ≤ ITEM_BYTES → reading (Reads items (state at.Between count [] line (around ∷ outer))) (bytes ++ more) ≡ reading (Reads items (state at.Between (count + length bytes) [] (line ++ listed xs) (around ∷ outer))) more
   all_read End bytes items count line around outer more e f d k =
       let z : count + length {A = ℕ} [] ≡ count = omega arith in
       rw (e, z, append-nil) refl

@@ -2,6 +2,7 @@
 use Rattle.std.specs.Prelude.{◌≡◌, ℕ, ◌<◌, ◌≤◌, true, List, [], ◌∷◌, ◌++◌, length}
 use Rattle.ra_item.specs.Bytes.{is_white, is_digit, all_bytes, number_of}
 use Rattle.ra_item.specs.Items.{Item, Word, Number, Text, Nested, Items, End, Then, Fits, nesting}
+use Rattle.ra_item.specs.declared.limits.TheConstants.{ITEM_BYTES, NESTING}
 
 -- digits spell a number, with leading zeros or without
 pub record Spells (digits : List ℕ) (n : ℕ) : Type 0 where
@@ -34,8 +35,8 @@ abbrev mutual
 pub record IsItem (bytes : List ℕ) (x : Item) : Type 0 where
   pub spelled : Spelled bytes x
   pub fits : Fits x
-  pub depth : nesting x ≤ 16
-  pub short : length bytes ≤ 33554432
+  pub depth : nesting x ≤ NESTING
+  pub short : length bytes ≤ ITEM_BYTES
 
 -- items, with white space behind each
 abbrev pub AreItems : List ℕ → List Item → Type 0

@@ -2,6 +2,7 @@
 use Rattle.std.specs.Prelude.{◌≡◌, ℕ, ◌+◌, ◌<◌, ◌≤◌, ◌^◌, max, true, List, [], ◌∷◌, ◌++◌, length}
 use Rattle.std.specs.Fmt.{decimal}
 use Rattle.ra_item.specs.Bytes.{is_word}
+use Rattle.ra_item.specs.declared.limits.TheConstants.{NESTING, STRING_BYTES, WORD_BYTES}
 
 -- an item is a word, a number, a string or a list of items
 mutual
@@ -47,9 +48,9 @@ abbrev mutual
 -- words are words of at most 64 bytes, numbers lie below 2 ^ 64, strings have at most 1,048,576 bytes
 abbrev mutual
   pub Fits : Item → Type 0
-  Fits (Word w) = (is_word w ≡ true) × (length w ≤ 64)
+  Fits (Word w) = (is_word w ≡ true) × (length w ≤ WORD_BYTES)
   Fits (Number n) = n < 2 ^ 64
-  Fits (Text t) = length t ≤ 1048576
+  Fits (Text t) = length t ≤ STRING_BYTES
   Fits (Nested xs) = AllFit xs
 
   pub AllFit : Items → Type 0
@@ -59,5 +60,5 @@ abbrev mutual
 -- an item within the limits: at most 16 lists deep, and at most 33,554,432 bytes without the space behind it
 pub record Within (x : Item) : Type 0 where
   pub fits : Fits x
-  pub depth : nesting x ≤ 16
+  pub depth : nesting x ≤ NESTING
   pub bytes : length (spell x) ≤ 33554433

@@ -8,6 +8,7 @@ use Rattle.ra_item.specs.declared.reading.Reading.{Reading}
 use Rattle.ra_item.specs.Reading.{begin, is_between}
 use Rattle.ra_item.specs.Places.{kept}
 use Rattle.ra_item.specs.Streams.{Stream, Reads, Refuses, reading, stream_of, item_bytes}
+use Rattle.ra_item.specs.declared.limits.TheConstants.{ITEM_BYTES, STRING_BYTES}
 
 -- how bytes are cut into pieces doesn't matter
 abbrev pub PiecesJoin : Type 0
@@ -35,7 +36,7 @@ OneReading = (bytes : List ℕ) (items others : List Item) → IsStream bytes it
 
 -- what is read is in the grammar: the bytes are a stream of the items, and then the bytes so far of one more, at most 33,554,432
 abbrev pub ReadIsSpelled : Type 0
-ReadIsSpelled = (bytes : List ℕ) (items : List Item) (r : Reading) → stream_of bytes ≡ Reads items r → (whole rest : List ℕ) × IsStream whole items × (bytes ≡ whole ++ rest) × (item_bytes r ≡ length rest) × (length rest ≤ 33554432)
+ReadIsSpelled = (bytes : List ℕ) (items : List Item) (r : Reading) → stream_of bytes ≡ Reads items r → (whole rest : List ℕ) × IsStream whole items × (bytes ≡ whole ++ rest) × (item_bytes r ≡ length rest) × (length rest ≤ ITEM_BYTES)
 
 -- the bytes may end only where they are a stream of the items
 abbrev pub EndsWhole : Type 0
@@ -51,7 +52,7 @@ KeptIsFed = (bytes : List ℕ) (items : List Item) (r : Reading) → stream_of b
 
 -- bytes that aren't refused begin a stream of the grammar, where a top-level item has room for the longest string and the ends of 16 lists
 abbrev pub ReadGoesOn : Type 0
-ReadGoesOn = (bytes : List ℕ) (items : List Item) (r : Reading) → stream_of bytes ≡ Reads items r → item_bytes r + 1048640 ≤ 33554432 → (more : List ℕ) × (others : List Item) × IsStream (bytes ++ more) (items ++ others)
+ReadGoesOn = (bytes : List ℕ) (items : List Item) (r : Reading) → stream_of bytes ≡ Reads items r → item_bytes r + (STRING_BYTES + 64) ≤ ITEM_BYTES → (more : List ℕ) × (others : List Item) × IsStream (bytes ++ more) (items ++ others)
 
 -- bytes that are refused begin no stream of the grammar, however they go on
 abbrev pub RefusedIsNoFront : Type 0

@@ -6,19 +6,20 @@ use Rattle.ra_item.specs.declared.fault.ItemFault.{ItemFault}
 use Rattle.ra_item.specs.declared.fault.NextFault.{NextFault}
 use Rattle.ra_item.specs.declared.fault.NextFault.TheVariants as next
 use Rattle.ra_item.specs.declared.fault.ItemFault.TheVariants.{Truncated, TooLong, Failed, BadItem, TooDeep, OutOfMemory}
+use Rattle.ra_item.specs.declared.limits.TheConstants.{NESTING, STRING_BYTES, WORD_BYTES}
 
 -- a word has at most 64 bytes
 abbrev pub word_of : List ℕ → Result Item ItemFault
-word_of w = if is_word w then if nat_lt 64 (length w) then Err TooLong else Ok (Word w) else Err BadItem
+word_of w = if is_word w then if nat_lt WORD_BYTES (length w) then Err TooLong else Ok (Word w) else Err BadItem
 
 -- a string has at most 1,048,576 bytes
 abbrev pub text_of : List ℕ → Result Item ItemFault
-text_of t = if nat_lt 1048576 (length t) then Err TooLong else Ok (Text t)
+text_of t = if nat_lt STRING_BYTES (length t) then Err TooLong else Ok (Text t)
 
 -- a list is at most 16 deep, and its spelling has at most 33,554,432 bytes before the space behind it
 abbrev pub list_of : Items → Result Item ItemFault
 list_of xs =
-    if nat_lt 16 (nesting (Nested xs)) then Err TooDeep
+    if nat_lt NESTING (nesting (Nested xs)) then Err TooDeep
     else if nat_lt 33554433 (length (spell (Nested xs))) then Err TooLong
     else Ok (Nested xs)
 

@@ -8,6 +8,7 @@ use Rattle.ra_item.specs.declared.reading.Place.{Place}
 use Rattle.ra_item.specs.declared.reading.Place.TheVariants as at
 use Rattle.ra_item.specs.declared.reading.Reading.{Reading}
 use Rattle.ra_item.specs.Reading.{failed}
+use Rattle.ra_item.specs.declared.limits.TheConstants.{ITEM_BYTES, STRING_BYTES, WORD_BYTES}
 
 -- the bytes of a list that is open, behind the bytes in front of it
 abbrev pub InList : List ℕ → List Item → List ℕ → Type 0
@@ -32,10 +33,10 @@ Closes (around ∷ outer) line bytes = (front white inner : List ℕ) × Inside 
 abbrev pub Part : Place → List ℕ → List Item → List (List Item) → List ℕ → Type 0
 Part at.Between held line outer bytes = (held ≡ []) × Inside outer line bytes
 Part at.Opened held line outer bytes = (held ≡ []) × Opens outer line bytes
-Part at.Word held line outer bytes = (front : List ℕ) × Inside outer line front × (is_word held ≡ true) × (length held ≤ 64) × (bytes ≡ front ++ held)
+Part at.Word held line outer bytes = (front : List ℕ) × Inside outer line front × (is_word held ≡ true) × (length held ≤ WORD_BYTES) × (bytes ≡ front ++ held)
 Part (at.Number n) held line outer bytes = (front digits : List ℕ) × (held ≡ []) × Inside outer line front × Spells digits n × (n < 2 ^ 64) × (bytes ≡ front ++ digits)
-Part (at.Text n) held line outer bytes = (front digits : List ℕ) × Inside outer line front × Spells digits n × (n ≤ 1048576) × (length held < n) × (bytes ≡ front ++ (digits ++ 58 ∷ held))
-Part at.Ended held line outer bytes = (front digits : List ℕ) × Inside outer line front × Spells digits (length held) × (length held ≤ 1048576) × (bytes ≡ front ++ (digits ++ 58 ∷ held))
+Part (at.Text n) held line outer bytes = (front digits : List ℕ) × Inside outer line front × Spells digits n × (n ≤ STRING_BYTES) × (length held < n) × (bytes ≡ front ++ (digits ++ 58 ∷ held))
+Part at.Ended held line outer bytes = (front digits : List ℕ) × Inside outer line front × Spells digits (length held) × (length held ≤ STRING_BYTES) × (bytes ≡ front ++ (digits ++ 58 ∷ held))
 Part at.Closed held line outer bytes = (held ≡ []) × Closes outer line bytes
 Part at.Failed held line outer bytes = ⊥
 
@@ -44,7 +45,7 @@ pub record Sound (r : Reading) : Type 0 where
   pub bytes : List ℕ
   pub part : Part r.place r.held r.row r.outer bytes
   pub count : r.count ≡ length bytes
-  pub short : r.count ≤ 33554432
+  pub short : r.count ≤ ITEM_BYTES
 
 -- a reader stands so, or it has refused bytes and keeps nothing
 abbrev pub IsStanding : Reading → Type 0

@@ -8,6 +8,7 @@ use Rattle.ra_item.specs.declared.fault.ItemFault.TheVariants.{BadItem, TooLong,
 use Rattle.ra_item.specs.declared.reading.Place.{Place}
 use Rattle.ra_item.specs.declared.reading.Place.TheVariants as at
 use Rattle.ra_item.specs.declared.reading.Reading.{Reading}
+use Rattle.ra_item.specs.declared.limits.TheConstants.{ITEM_BYTES, NESTING, STRING_BYTES, WORD_BYTES}
 
 -- the item goes on, or it is whole, or the byte is refused
 pub data Step : Type 0 where
@@ -48,7 +49,7 @@ close r = elim r.outer [ [] ↦ Refused BadItem | around ∷ outer ↦ made (rec
 
 -- a list opens
 abbrev pub open_list : Reading → Step
-open_list r = if nat_lt (length r.outer) 16 then Next (record r { place = at.Opened; row = []; outer = r.row ∷ r.outer }) else Refused TooDeep
+open_list r = if nat_lt (length r.outer) NESTING then Next (record r { place = at.Opened; row = []; outer = r.row ∷ r.outer }) else Refused TooDeep
 
 -- where an item may begin, white space may come or the innermost list may end
 abbrev pub start : Reading → ℕ → Step
@@ -68,7 +69,7 @@ ends b step = if is_white b then step else Refused BadItem
 abbrev pub in_word : Reading → ℕ → Step
 in_word r b =
     if is_word_byte b
-    then if nat_lt (length r.held) 64 then Next (record r { held = r.held ++ b ∷ [] }) else Refused TooLong
+    then if nat_lt (length r.held) WORD_BYTES then Next (record r { held = r.held ++ b ∷ [] }) else Refused TooLong
     else ends b (made r (word_of r.held))
 
 -- a digit more, while the number lies below 2 ^ 64
@@ -77,7 +78,7 @@ in_number n r b =
     if is_digit b
     then if nat_lt (n * 10 + (b - 48)) 18446744073709551616 then Next (record r { place = at.Number (n * 10 + (b - 48)) }) else Refused BadItem
     else if b == 58
-    then if nat_lt 1048576 n then Refused TooLong else Next (record r { place = if n == 0 then at.Ended else at.Text n; held = [] })
+    then if nat_lt STRING_BYTES n then Refused TooLong else Next (record r { place = if n == 0 then at.Ended else at.Text n; held = [] })
     else ends b (give r (Number n))
 
 abbrev pub byte_step : Place → Reading → ℕ → Step
@@ -94,7 +95,7 @@ byte_step at.Failed r b = Refused Failed
 abbrev pub counted : Step → Step
 counted (Next r) =
     if is_between r then Next r
-    else if nat_lt r.count 33554432 then Next (record r { count = r.count + 1 })
+    else if nat_lt r.count ITEM_BYTES then Next (record r { count = r.count + 1 })
     else Refused TooLong
 counted (Gives x r) = Gives x r
 counted (Refused f) = Refused f

@@ -8,6 +8,7 @@ use Rattle.ra_item.specs.Streams.{Reads, Refuses, stream_of}
 use Rattle.ra_item.specs.declared.fault.ItemFault.{ItemFault}
 use Rattle.ra_item.specs.declared.fault.ItemFault.TheVariants.{BadItem, TooLong, TooDeep}
 use Rattle.ra_item.specs.declared.reading.Reading.{Reading}
+use Rattle.ra_item.specs.declared.limits.TheConstants.{ITEM_BYTES, NESTING, STRING_BYTES, WORD_BYTES}
 
 -- bytes of an item, or what stands before it, up to a place where an item may begin inside so many lists
 pub record Begun (depth : ℕ) (bytes : List ℕ) : Type 0 where
@@ -18,11 +19,11 @@ pub record Begun (depth : ℕ) (bytes : List ℕ) : Type 0 where
 
 -- a word has more than 64 bytes
 abbrev pub IsLongWord : List ℕ → Type 0
-IsLongWord bytes = (depth : ℕ) × (front word : List ℕ) × Begun depth front × (is_word word ≡ true) × (64 < length word) × (bytes ≡ front ++ word)
+IsLongWord bytes = (depth : ℕ) × (front word : List ℕ) × Begun depth front × (is_word word ≡ true) × (WORD_BYTES < length word) × (bytes ≡ front ++ word)
 
 -- a string is announced with more than 1,048,576 bytes
 abbrev pub IsLongText : List ℕ → Type 0
-IsLongText bytes = (depth n : ℕ) × (front digits : List ℕ) × Begun depth front × Spells digits n × (1048576 < n) × (bytes ≡ front ++ (digits ++ 58 ∷ []))
+IsLongText bytes = (depth n : ℕ) × (front digits : List ℕ) × Begun depth front × Spells digits n × (STRING_BYTES < n) × (bytes ≡ front ++ (digits ++ 58 ∷ []))
 
 abbrev pub begins_white : List ℕ → Bool
 begins_white [] = false
@@ -30,11 +31,11 @@ begins_white (b ∷ bs) = is_white b
 
 -- an item has more than 33,554,432 bytes, without white space in front
 abbrev pub IsLongItem : List ℕ → Type 0
-IsLongItem bytes = (33554432 < length bytes) × (begins_white bytes ≡ false)
+IsLongItem bytes = (ITEM_BYTES < length bytes) × (begins_white bytes ≡ false)
 
 -- a list opens inside 16 others
 abbrev pub IsDeep : List ℕ → Type 0
-IsDeep bytes = (front : List ℕ) × Begun 16 front × (bytes ≡ front ++ 40 ∷ [])
+IsDeep bytes = (front : List ℕ) × Begun NESTING front × (bytes ≡ front ++ 40 ∷ [])
 
 -- behind these items, and white space behind each, what has come of one more is so
 pub record Behind (items : List Item) (P : List ℕ → Type 0) (bytes : List ℕ) : Type 0 where

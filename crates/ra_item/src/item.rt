@@ -9,7 +9,7 @@ ghost use Rattle.ra_item.specs.Weights.{weigh};
 ghost use Rattle.ra_item.specs.Shapes.{item_of};
 
 use crate::fault::ItemFault;
-use crate::limits::{ITEM_BYTES, NESTING, TEXT_BYTES, WORD_BYTES};
+use crate::limits::{ITEM_BYTES, NESTING, STRING_BYTES, WORD_BYTES};
 use std::alloc::Global;
 use std::marker::Model;
 
@@ -129,7 +129,7 @@ fn size_of_all(items: &[Item]) -> Option<u32>
 
 /// How many bytes the items are written with.
 pub fn written_size(items: &[Item]) -> usize
-    requires { weigh items.now ≤ 33554432 }
+    requires { weigh items.now ≤ ITEM_BYTES }
     ensures { result ≡ weigh items.now }
 {
     let mut size = 0;
@@ -162,7 +162,7 @@ impl Item {
     pub fn text_from_vec(bytes: Vec<u8>) -> Result<Item, ItemFault>
         ensures { result ≡ text_of bytes.items }
     {
-        if bytes.len() > TEXT_BYTES {
+        if bytes.len() > STRING_BYTES {
             return Err(ItemFault::TooLong);
         }
         let size = digit_count(bytes.len() as u64) + bytes.len() as u32 + 2;

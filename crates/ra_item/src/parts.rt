@@ -1,6 +1,7 @@
 //! Bytes, items and open lists that a reader keeps.
 
 ghost use Rattle.ra_item.specs.Weights.{weigh, weigh_all};
+ghost use Rattle.ra_item.specs.declared.limits.TheConstants.{ITEM_BYTES};
 ghost use Rattle.std.specs.Prelude.{◌≡◌, ◌≤◌, [], ◌∷◌, ◌++◌, length, IfOk, OnErr, MatchOption};
 ghost use Rattle.std.specs.Prelude.{reverse};
 
@@ -98,7 +99,7 @@ impl Row {
 
     /// How many bytes the items are written with.
     pub fn written_size(&self) -> usize
-        requires { weigh self.now ≤ 33554432 }
+        requires { weigh self.now ≤ ITEM_BYTES }
         ensures { result ≡ weigh self.now }
     {
         written_size(&self.items)
@@ -160,7 +161,7 @@ impl Stack {
 
     /// How many bytes the items of all the lists are written with.
     pub fn written_size(&self) -> usize
-        requires { weigh_all self.now ≤ 33554432 }
+        requires { weigh_all self.now ≤ ITEM_BYTES }
         ensures { result ≡ weigh_all self.now }
     {
         let mut size = 0;

@@ -12,7 +12,7 @@ ghost use Rattle.ra_item.specs.declared.reading.Place.TheVariants as at;
 
 use crate::fault::ItemFault;
 use crate::item::{Item, is_inner_byte, is_letter_byte};
-use crate::limits::{ITEM_BYTES, NESTING, TEXT_BYTES, WORD_BYTES};
+use crate::limits::{ITEM_BYTES, NESTING, STRING_BYTES, WORD_BYTES};
 use crate::parts::{Bytes, Row, Stack};
 use std::alloc::{AllocError, Global};
 use std::mem;
@@ -93,7 +93,7 @@ impl Reading {
 
     /// How many bytes are kept.
     pub fn kept(&self) -> usize
-        requires { kept self.now ≤ 33554432 }
+        requires { kept self.now ≤ ITEM_BYTES }
         ensures { result ≡ kept self.now }
     {
         self.held.len() + (self.row.written_size() + self.outer.written_size())
@@ -234,7 +234,7 @@ impl Reading {
             return Ok(None);
         }
         if b == b':' {
-            if n > TEXT_BYTES as u64 {
+            if n > STRING_BYTES as u64 {
                 return Err(ItemFault::TooLong);
             }
             self.place = if n == 0 {
@@ -322,7 +322,7 @@ impl Reading {
     /// How many bytes of a string may be kept at once: not its last, and none past the limit.
     fn room(&self) -> usize
         ensures keep { MayKeep self.now result }
-        ensures left { 0 < result → self.now.count + result ≤ 33554432 }
+        ensures left { 0 < result → self.now.count + result ≤ ITEM_BYTES }
     {
         match self.place {
             Place::Text(n) => {
@@ -337,7 +337,7 @@ impl Reading {
 
     /// Keeps bytes of a string.
     fn keep(&mut self, bytes: &[u8]) -> Result<(), AllocError>
-        requires { self.old.count + length bytes.now ≤ 33554432 }
+        requires { self.old.count + length bytes.now ≤ ITEM_BYTES }
         ensures { IfOk result (λ _. self.new ≡ held_more self.old bytes.now) }
     {
         self.held.extend(bytes)?;

@@ -10,13 +10,14 @@ ghost use Rattle.browse_wire.specs.Told.{absolute, source_item};
 ghost use Rattle.ra_log.specs.Entries.{change_with, change_item, changes_told, changes_item};
 
 use crate::kind::kind_told;
-use crate::pieces::{write_absolute, write_kind, write_none, write_truth};
+use browse_wire::pieces::write_absolute;
 use dump_load::{Change, ChangeSet};
 use node_base::{NodeKind, NodePath, RevNo, Source};
 use path_history::{ChangedPath, changed_path};
 use path_tree::Tree;
 use ra_item::writer::{write_close, write_number, write_open, write_word};
 use ra_serve::ServeFault;
+use ra_wire::pieces::{write_kind_text, write_none, write_truth};
 use std::alloc::Global;
 use std::io;
 use std::io::Write;
@@ -50,7 +51,7 @@ fn write_changed<W: Write>(out: &mut W, kind: NodeKind, text: bool, props: bool)
         (spell (list (Text (node_kind_word kind) ∷ Word (truth_word text) ∷ Word (truth_word props) ∷ [])))) }
 {
     write_open(out)?;
-    write_kind(out, kind)?;
+    write_kind_text(out, kind)?;
     write_truth(out, text)?;
     write_truth(out, props)?;
     write_close(out)

@@ -10,6 +10,5 @@ pub use rows::LogRows;
 mod change;
 mod entry;
 mod kind;
-mod pieces;
 mod revprops;
 mod rows;

@@ -12,10 +12,10 @@ ghost use Rattle.ra_wire.specs.Replies.{string, property, properties};
 ghost use Rattle.browse_wire.specs.Asks.{revprops_as};
 ghost use Rattle.ra_log.specs.Entries.{is_usual, wants, value_told, is_other, others_of};
 
-use crate::pieces::{write_property, write_string, write_truth};
 use browse_wire::ask::RevpropsWanted;
 use node_base::{PropName, PropValue, Props};
 use ra_item::writer::{write_close, write_number, write_open};
+use ra_wire::pieces::{write_property, write_string, write_truth};
 use std::io;
 use std::io::Write;
 

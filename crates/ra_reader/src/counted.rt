@@ -1,17 +1,16 @@
 //! A session over an output whose failures are counted.
 
-ghost use Rattle.std.specs.Prelude.{◌≡◌, ◌≤◌, IfOk, IfErr, if◌then◌else◌};
+ghost use Rattle.std.specs.Prelude.{◌≡◌, ◌≤◌, IfOk, IfErr};
 ghost use Rattle.byte_streams.specs.Causes.{Fails};
 ghost use Rattle.ra_item.specs.ItemStreams.{meanwhile, reader_of};
 ghost use Rattle.ra_serve.specs.Counted.{IsToldOnlyBy};
-ghost use Rattle.ra_serve.specs.declared.fault.ServeFault.TheVariants.{OutOfMemory, WriteFailed};
 ghost use Rattle.ra_reader.specs.Serving.{BrowsesSession};
 ghost use Rattle.ra_browse.specs.Tellings.{PortStays};
 
 use crate::session::browse;
-use byte_streams::{Input, Lent, Output, has_failed_since};
+use byte_streams::{Input, Lent, Output};
 use ra_item::stream::ItemStream;
-use ra_serve::{End, RepoPort, ServeFault, Unserved};
+use ra_serve::{End, RepoPort, ServeFault, Unserved, judged};
 use std::alloc::Global;
 
 /// Serves one session as `browse` does, to an output whose failures are counted, which comes back behind a refusal too.
@@ -37,45 +36,4 @@ pub fn browse_to<P: RepoPort, I: Input + Drop, O: Output + Drop>(
         Err(fault) => fault,
     };
     Err(judged(fault, before, back))
-}
-
-// What a refusal is told as, of an output that had failed so often before: it failed only where its count rose.
-fn judged<O: Output + Drop>(why: ServeFault, before: u64, out: Option<O>) -> Unserved<O>
-    ensures back { result.out ≡ out }
-    ensures reader { result.fault ≡ ServeFault.ReadFailed → why ≡ ServeFault.ReadFailed }
-    ensures writer { IsToldOnlyBy O.failures before result.fault result.out }
-{
-    match why {
-        ServeFault::WriteFailed => of_writer(before, out),
-        _ => Unserved { fault: why, out },
-    }
-}
-
-// The same where the session says that its writer failed.
-fn of_writer<O: Output + Drop>(before: u64, out: Option<O>) -> Unserved<O>
-    ensures back { result.out ≡ out }
-    ensures reader { result.fault ≡ ServeFault.ReadFailed → ⊥ }
-    ensures writer { IsToldOnlyBy O.failures before result.fault result.out }
-{
-    match out {
-        Some(out) => Unserved {
-            fault: writer_fault(has_failed_since(&out, before)),
-            out: Some(out),
-        },
-        None => Unserved {
-            fault: ServeFault::OutOfMemory,
-            out: None,
-        },
-    }
-}
-
-// The refusal where an output failed or didn't.
-fn writer_fault(failed: bool) -> ServeFault
-    ensures { result ≡ (if failed then WriteFailed else OutOfMemory) }
-{
-    if failed {
-        ServeFault::WriteFailed
-    } else {
-        ServeFault::OutOfMemory
-    }
 }

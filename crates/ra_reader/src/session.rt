@@ -1,20 +1,17 @@
 //! A session from its greeting to its end.
 
-ghost use Rattle.std.specs.Prelude.{◌≡◌, ◌≤◌, ◌++◌, ◌∷◌, [], IfOk, IfErr, OnOk};
-ghost use Rattle.std.specs.Option.{option_map};
+ghost use Rattle.std.specs.Prelude.{◌≡◌, ◌≤◌, ◌++◌, IfOk, IfErr, OnOk};
 ghost use Rattle.std.specs.Io.KnownBytes.{Appends, Keeps};
 ghost use Rattle.byte_streams.specs.Causes.{Fails};
 ghost use Rattle.uuid.specs.Text.{hyphenated_text, lower};
 ghost use Rattle.node_base.specs.Refusals.{refusal_number, refusal_text};
 ghost use Rattle.ra_item.specs.ItemStreams.{meanwhile, reader_of};
-ghost use Rattle.ra_item.specs.Items.{spell, Number, Word};
+ghost use Rattle.ra_item.specs.Items.{spell};
 ghost use Rattle.ra_item.specs.declared.fault.NextFault.TheVariants as next;
-ghost use Rattle.ra_wire.specs.Openings.{login_in, login_as};
-ghost use Rattle.ra_wire.specs.Replies.{answer_of, done, list, mechanisms, only_anonymous, welcome};
+ghost use Rattle.ra_wire.specs.Replies.{done, mechanisms, only_anonymous, welcome};
 ghost use Rattle.browse_wire.specs.Urls.{url_read};
 ghost use Rattle.ra_serve.specs.Answers.{refused};
 ghost use Rattle.ra_serve.specs.Serving.{EndsBy};
-ghost use Rattle.ra_serve.specs.Sessions.{is_anonymous};
 ghost use Rattle.ra_reader.specs.Serving.{BrowsesSession, BrowsesLogin, BrowsesCommands};
 ghost use Rattle.ra_reader.specs.Sessions.{greeting, place_in, place_read};
 ghost use Rattle.ra_browse.specs.Tellings.{place_as, PortStays};
@@ -24,17 +21,14 @@ use crate::phase::Phase;
 use crate::take::take;
 use browse_wire::url::{SessionUrl, UrlFault};
 use byte_streams::Input;
-use ra_browse::{write_end, write_name, write_none};
+use node_base::texts;
 use ra_item::fault::{ItemFault, NextFault};
 use ra_item::item::Item;
 use ra_item::stream::ItemStream;
-use ra_item::writer::{write_close, write_number, write_open, write_word};
-use ra_serve::{End, RepoPort, ServeFault};
+use ra_serve::{End, RepoPort, ServeFault, logs_in, write_identity, write_realm};
 use ra_wire::fault::WireFault;
-use ra_wire::opening::{Hello, Login};
-use ra_wire::reply_writer::{
-    write_done, write_failure, write_mechanisms, write_only_anonymous, write_welcome,
-};
+use ra_wire::opening::Hello;
+use ra_wire::reply_writer::{write_done, write_failure, write_only_anonymous, write_versions};
 use std::alloc::Global;
 use std::io;
 use std::io::Write;
@@ -102,9 +96,9 @@ impl Misplaced {
         ensures { result.now ≡ refusal_text (refusal_for self) }
     {
         match self {
-            Misplaced::TooLong => b"limit exceeded",
-            Misplaced::BadPath => b"bad path",
-            Misplaced::BadShape => b"bad command shape",
+            Misplaced::TooLong => texts::TOO_LONG.as_bytes(),
+            Misplaced::BadPath => texts::BAD_PATH.as_bytes(),
+            Misplaced::BadShape => texts::BAD_SHAPE.as_bytes(),
         }
     }
 }
@@ -148,31 +142,6 @@ fn write_greeting<W: Write>(out: &mut W) -> io::Result<()>
     ensures { OnOk result (Appends (W.contents out.old) (W.contents out.new) (spell greeting)) }
 {
     write_versions(out, b"success", b"edit-pipeline", b"depth")
-}
-
-// The greeting, with its name and two capabilities.
-fn write_versions<W: Write>(out: &mut W, name: &[u8], first: &[u8], second: &[u8]) -> io::Result<()>
-    ensures { OnOk result (Appends (W.contents out.old) (W.contents out.new)
-        (spell (answer_of name.now (Number 2 ∷ Number 2 ∷ list []
-        ∷ list (Word first.now ∷ Word second.now ∷ []) ∷ [])))) }
-{
-    write_name(out, name)?;
-    write_number(out, 2)?;
-    write_number(out, 2)?;
-    write_none(out)?;
-    write_two(out, first, second)?;
-    write_end(out)
-}
-
-// Two words in brackets.
-fn write_two<W: Write>(out: &mut W, first: &[u8], second: &[u8]) -> io::Result<()>
-    ensures { OnOk result (Appends (W.contents out.old) (W.contents out.new)
-        (spell (list (Word first.now ∷ Word second.now ∷ [])))) }
-{
-    write_open(out)?;
-    write_word(out, first)?;
-    write_word(out, second)?;
-    write_close(out)
 }
 
 // What is kept back goes out.
@@ -235,24 +204,6 @@ fn log_in<P: RepoPort, I: Input + Drop, W: Write + Drop>(
     }
 }
 
-// Whether a client says in the one way that is taken who it is; none for an item of another shape.
-fn logs_in(item: Item) -> Result<Option<bool>, ServeFault>
-    ensures told { IfOk result (λ o. o ≡ option_map is_anonymous (login_in item)) }
-    ensures reader { IfErr result (λ f. f ≡ ServeFault.ReadFailed → ⊥) }
-{
-    match Login::parse(item) {
-        Ok(login) => Ok(Some(is_anonymous(&login))),
-        Err(WireFault::BadShape) => Ok(None),
-        Err(_) => Err(ServeFault::OutOfMemory),
-    }
-}
-
-fn is_anonymous(login: &Login) -> bool
-    ensures { result ≡ is_anonymous (login_as login.now) }
-{
-    login.mechanism.as_slice() == b"ANONYMOUS".as_slice()
-}
-
 // Asks the client who it is.
 fn ask_who<W: Write + Drop>(identity: &Uuid, out: W) -> Result<W, ServeFault>
     ensures sent { IfOk result (λ w. Appends (W.contents out) (W.contents w)
@@ -262,15 +213,6 @@ fn ask_who<W: Write + Drop>(identity: &Uuid, out: W) -> Result<W, ServeFault>
     let mut out = out;
     write_realm(&mut out, identity)?;
     flushed(out)
-}
-
-fn write_realm<W: Write>(out: &mut W, identity: &Uuid) -> io::Result<()>
-    ensures { OnOk result (Appends (W.contents out.old) (W.contents out.new)
-        (spell (mechanisms (hyphenated_text lower identity.now)))) }
-{
-    let mut buffer = Uuid::encode_buffer();
-    let realm = identity.hyphenated().encode_lower(&mut buffer);
-    write_mechanisms(out, realm.as_bytes())
 }
 
 // The end of an opening.
@@ -283,15 +225,6 @@ fn welcome<W: Write + Drop>(identity: &Uuid, root_url: &[u8], out: W) -> Result<
     write_done(&mut out)?;
     write_identity(&mut out, identity, root_url)?;
     flushed(out)
-}
-
-fn write_identity<W: Write>(out: &mut W, identity: &Uuid, root_url: &[u8]) -> io::Result<()>
-    ensures { OnOk result (Appends (W.contents out.old) (W.contents out.new)
-        (spell (welcome (hyphenated_text lower identity.now) root_url.now))) }
-{
-    let mut buffer = Uuid::encode_buffer();
-    let text = identity.hyphenated().encode_lower(&mut buffer);
-    write_welcome(out, text.as_bytes(), root_url)
 }
 
 // The client says in another way who it is.

@@ -182,19 +182,19 @@ fn what_is_denied(rt: HostRuntime) {
 const UNANSWERED: [(&[u8], &[u8]); 6] = [
     (
         b"( nonsense ( ) ) ",
-        b"( failure ( ( 210001 15:unknown command 0: 0 ) ) ) ",
+        b"( failure ( ( 210001 32:this server only answers readers 0: 0 ) ) ) ",
     ),
     (
         b"( get-location-segments ( 5:trunk ( 3 ) ( 3 ) ( 0 ) ) ) ",
-        b"( failure ( ( 210001 15:unknown command 0: 0 ) ) ) ",
+        b"( failure ( ( 210001 32:this server only answers readers 0: 0 ) ) ) ",
     ),
     (
         b"( get-file-revs ( 12:trunk/README ( 0 ) ( 3 ) false ) ) ",
-        b"( failure ( ( 210001 15:unknown command 0: 0 ) ) ) ",
+        b"( failure ( ( 210001 32:this server only answers readers 0: 0 ) ) ) ",
     ),
     (
         b"( set-path ( 0: 3 false ( ) infinity ) ) ",
-        b"( failure ( ( 210001 15:unknown command 0: 0 ) ) ) ",
+        b"( failure ( ( 210001 32:this server only answers readers 0: 0 ) ) ) ",
     ),
     (
         b"( change-rev-prop ( 1 7:svn:log 3:new ) ) ",

@@ -21,7 +21,7 @@ const DENIED: [(&[u8], &[u8]); 8] = [
     ),
     (
         b"( update ( ( 3 ) 0: true unknown false false ) ) ( nonsense ( ) ) ( set-path ( 0: ) ) ( finish-report ( ) ) ( get-latest-rev ( ) ) ",
-        b"( success ( ( ) 0: ) ) ( failure ( ( 210001 15:unknown command 0: 0 ) ) ) ( success ( ( ) 0: ) ) ( success ( 3 ) ) ",
+        b"( success ( ( ) 0: ) ) ( failure ( ( 210001 32:this server only answers readers 0: 0 ) ) ) ( success ( ( ) 0: ) ) ( success ( 3 ) ) ",
     ),
     (
         b"( update ( ( 3 ) 0: true unknown false false ) ) ( get-latest-rev ( ) ) ( abort-report ( ) ) ( get-latest-rev ( ) ) ",

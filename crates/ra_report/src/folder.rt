@@ -17,8 +17,8 @@ use crate::order::is_short;
 use crate::plan::Wanted;
 use node_base::{NodePath, RevNo};
 use path_tree::Tree;
-use ra_browse::{Denial, Stop, stopped, tree_asked};
-use ra_serve::RepoPort;
+use ra_browse::{Denial, Stop, stopped};
+use ra_serve::{RepoPort, tree_asked};
 use std::alloc::{AllocError, Global};
 use tree_reports::{Depth, limited, put_copy, subtree};
 

@@ -28,8 +28,8 @@ use browse_wire::report::{ReportCommand, Reported};
 use browse_wire::url::SessionUrl;
 use node_base::{NodePath, RevNo};
 use path_tree::Tree;
-use ra_browse::{Denial, Stop, stopped, tree_asked};
-use ra_serve::RepoPort;
+use ra_browse::{Denial, Stop, stopped};
+use ra_serve::{RepoPort, tree_asked};
 use std::alloc::Global;
 use tree_reports::{Depth, Report};
 

@@ -20,8 +20,8 @@ use browse_wire::url::SessionUrl;
 use node_base::{NodeName, NodePath};
 use path_history::{HistoryFault, joined};
 use path_tree::Tree;
-use ra_browse::{Denial, Stop, stopped, tree_asked};
-use ra_serve::RepoPort;
+use ra_browse::{Denial, Stop, stopped};
+use ra_serve::{RepoPort, tree_asked};
 use std::alloc::Global;
 use tree_reports::{Report, ReportError};
 

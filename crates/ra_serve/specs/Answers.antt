@@ -1,5 +1,5 @@
 -- What a session's commands are answered: for each what is refused, and what it is told else.
-use Rattle.std.specs.Prelude.{◌≡◌, ℕ, suc, ◌-◌, ◌<◌, ◌≤◌, nat_lt, ◌==◌, is_none, is_some, not, Bool, true, false, List, [], ◌∷◌, ◌++◌, map, take, length, Option, Some, None, unwrap_or, Ok, Err, if◌then◌else◌}
+use Rattle.std.specs.Prelude.{◌≡◌, ℕ, suc, ◌+◌, ◌-◌, ◌<◌, ◌≤◌, nat_lt, ◌==◌, is_none, is_some, not, Bool, true, false, List, [], ◌∷◌, ◌++◌, map, take, length, Option, Some, None, unwrap_or, Ok, Err, if◌then◌else◌}
 use Rattle.std.specs.Option.{option_map, option_map_or, option_or}
 use Rattle.std.specs.List.{flat_map, range_with_len}
 use Rattle.std.specs.FinMap as finite
@@ -20,6 +20,7 @@ use Rattle.repo_core.specs.Refusals.{Wanted, Anything, Nothing, This, with_value
 use Rattle.repo_core.specs.declared.entry.Entry.TheVariants.{Mapped}
 use Rattle.path_tree.specs.Children.{name_in}
 use Rattle.ra_item.specs.Items.{Text, row, spell, spell_all}
+use Rattle.ra_item.specs.declared.limits.TheConstants.{ITEM_BYTES}
 use Rattle.ra_edit.specs.Commands.{edit_bytes}
 use Rattle.ra_wire.specs.Answers.{Dirent}
 use Rattle.ra_wire.specs.Commands.{Command, LatestRev, CheckPath, GetFile, GetDir, RevProplist, RevProp, ChangeProp, Replay, ReplayRange, Previous, Any, Absent, Value}
@@ -107,7 +108,7 @@ dir_bytes n props contents p tree = dir_with n props (entries_wanted contents p 
 
 -- an answer of more bytes than an item may have, with the space behind it
 abbrev pub item_due : List ℕ → Option Refusal
-item_due item = fault_if (nat_lt 33554433 (length item)) refusal.TooLong
+item_due item = fault_if (nat_lt (ITEM_BYTES + 1) (length item)) refusal.TooLong
 
 -- what is refused of it
 abbrev pub dir_refusal : ℕ → Bool → Bool → Path → PathMap → Option Refusal

@@ -13,6 +13,7 @@ ghost use Rattle.ra_serve.specs.Tellings.{GoesOn};
 
 use crate::fault::PortFault;
 use crate::port::RepoPort;
+use node_base::limits::REVISION;
 use node_base::{PropName, Props, RevNo};
 use path_tree::Tree;
 use repo_core::Expected;
@@ -25,7 +26,7 @@ pub fn revision<P: RepoPort>(port: &P, number: u64) -> Result<RevNo, PortFault>
         → OnErr result (no_revision x number ≡ Some refusal.NoSuchRevision) }
 {
     port.is_repository();
-    if number > 65_535 {
+    if number > REVISION as u64 {
         return Err(PortFault::NoSuchRevision);
     }
     Ok(RevNo::new(number as u16))
@@ -51,7 +52,7 @@ pub fn asked<P: RepoPort>(port: &mut P, number: Option<u64>) -> Result<RevNo, Po
 /// The number of the newest revision.
 pub fn newest<P: RepoPort>(port: &mut P) -> Result<u64, PortFault>
     ensures head { (x : Repository) → P.repository port.old ≡ Some x → IfOk result (λ n. n ≡ head_of x.revisions) }
-    ensures small { IfOk result (λ n. n ≤ 65535) }
+    ensures small { IfOk result (λ n. n ≤ REVISION) }
     ensures begun { (x : Repository) → P.repository port.old ≡ Some x → 0 < length x.revisions }
     ensures refused { (x : Repository) → P.repository port.old ≡ Some x → IfErr result (λ f.
         MayRefuse (P.refusals port.old) (P.refusals port.new) f None) }

@@ -8,24 +8,21 @@ ghost use Rattle.md5.specs.Md5.{md5};
 ghost use Rattle.ra_item.specs.Items.{spell};
 ghost use Rattle.ra_wire.specs.Replies.{file_found};
 ghost use Rattle.ra_wire.specs.Commands.{GetFile, GetDir};
-ghost use Rattle.ra_serve.specs.Answers.{text_bytes, file_with, file_told, strings, text_wanted};
+ghost use Rattle.ra_serve.specs.Answers.{file_told, file_with};
 ghost use Rattle.ra_serve.specs.Tellings.{Tells, GoesOn};
 
 use crate::ask::tree_asked;
 use crate::directory::tell_dir;
 use crate::fault::ServeFault;
 use crate::port::RepoPort;
+use crate::text::{hex_of, write_wanted};
 use crate::told::{kind_mismatch, no_such_path, refuse};
 use node_base::{Node, NodePath, RevNo, Text};
 use path_tree::Tree;
-use ra_item::writer::write_text;
-use ra_wire::reply_writer::{write_done, write_file};
+use ra_wire::reply_writer::write_file;
 use std::alloc::Global;
 use std::io;
 use std::io::Write;
-
-// How long a string may be in which a text is sent.
-const PIECE: usize = 65_536;
 
 /// Answers `get-file`.
 pub fn get_file<P: RepoPort, W: Write + Drop>(
@@ -98,49 +95,6 @@ fn write_summed<W: Write>(
 {
     let sum = hex_of(text.sum());
     write_file(out, sum.as_slice(), number, &node.props, props)
-}
-
-// A text, where it is wanted.
-fn write_wanted<W: Write>(out: &mut W, text: &[u8], wanted: bool) -> io::Result<()>
-    ensures { OnOk result (Appends (W.contents out.old) (W.contents out.new) (text_wanted wanted text.now)) }
-{
-    if wanted {
-        write_contents(out, text)
-    } else {
-        Ok(())
-    }
-}
-
-// A sum in 32 hexadecimal digits, in lower case.
-fn hex_of(sum: [u8; 16]) -> [u8; 32]
-    ensures { result ≡ encode_lower sum }
-{
-    let mut digits = [0; 32];
-    let written = hex::encode_to_slice(sum.as_slice(), &mut digits);
-    written.unwrap();
-    digits
-}
-
-// A text in its pieces, then an empty string, and that it is done.
-fn write_contents<W: Write>(out: &mut W, text: &[u8]) -> io::Result<()>
-    ensures { OnOk result (Appends (W.contents out.old) (W.contents out.new) (text_bytes text.now)) }
-{
-    write_pieces(out, text)?;
-    write_text(out, b"")?;
-    write_done(out)
-}
-
-// A text in strings.
-fn write_pieces<W: Write>(out: &mut W, text: &[u8]) -> io::Result<()>
-    ensures { OnOk result (Appends (W.contents out.old) (W.contents out.new) (strings text.now)) }
-{
-    let mut rest = text;
-    while rest.len() > 0 {
-        let (part, behind) = rest.split_at(rest.len().min(PIECE));
-        write_text(out, part)?;
-        rest = behind;
-    }
-    Ok(())
 }
 
 /// Answers `get-dir`.

@@ -59,8 +59,8 @@ pub fn serve<P: RepoPort, I: Input + Drop, O: Output + Drop>(
     Err(judged(fault, before, back))
 }
 
-// What a refusal is told as, of an output that had failed so often before: it failed only where its count rose.
-fn judged<O: Output + Drop>(why: ServeFault, before: u64, out: Option<O>) -> Unserved<O>
+/// What a refusal is told as, of an output that had failed so often before: it failed only where its count rose.
+pub fn judged<O: Output + Drop>(why: ServeFault, before: u64, out: Option<O>) -> Unserved<O>
     ensures back { result.out ≡ out }
     ensures reader { result.fault ≡ ServeFault.ReadFailed → why ≡ ServeFault.ReadFailed }
     ensures writer { IsToldOnlyBy O.failures before result.fault result.out }

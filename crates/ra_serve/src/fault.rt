@@ -4,6 +4,7 @@ ghost use Rattle.std.specs.Prelude.{◌≡◌};
 ghost use Rattle.node_base.specs.Refusals.{refusal_number, refusal_text};
 ghost use Rattle.ra_serve.specs.Ports.{refusal_of};
 
+use node_base::texts;
 use ra_item::fault::ItemFault;
 use std::alloc::AllocError;
 use std::io;
@@ -13,25 +14,25 @@ use thiserror::Error;
 #[derive(Clone, Copy, Debug, PartialEq, Eq, Drop, Error)]
 pub enum PortFault {
     /// Properties past their limits: a value, or how many there are (8).
-    #[error("limit exceeded")]
+    #[error("{}", texts::TOO_LONG)]
     TooLong,
     /// A revision above the head (21).
-    #[error("no such revision")]
+    #[error("{}", texts::NO_SUCH_REVISION)]
     NoSuchRevision,
     /// A conditional change found another value (22).
-    #[error("the property is not as expected")]
+    #[error("{}", texts::BASE_MISMATCH)]
     BaseMismatch,
     /// The port's device failed (31).
-    #[error("device failed")]
+    #[error("{}", texts::DEVICE_FAILED)]
     DeviceFailed,
     /// It failed before (32).
-    #[error("failed before")]
+    #[error("{}", texts::FAILED)]
     Failed,
     /// Its journal is full (36).
-    #[error("journal is full")]
+    #[error("{}", texts::LOG_FULL)]
     LogFull,
     /// A growth of its own was refused (70).
-    #[error("out of memory")]
+    #[error("{}", texts::OUT_OF_MEMORY)]
     OutOfMemory,
 }
 
@@ -56,13 +57,13 @@ impl PortFault {
         ensures { result.now ≡ refusal_text (refusal_of self) }
     {
         match self {
-            PortFault::TooLong => b"limit exceeded",
-            PortFault::NoSuchRevision => b"no such revision",
-            PortFault::BaseMismatch => b"the property is not as expected",
-            PortFault::DeviceFailed => b"device failed",
-            PortFault::Failed => b"failed before",
-            PortFault::LogFull => b"journal is full",
-            PortFault::OutOfMemory => b"out of memory",
+            PortFault::TooLong => texts::TOO_LONG.as_bytes(),
+            PortFault::NoSuchRevision => texts::NO_SUCH_REVISION.as_bytes(),
+            PortFault::BaseMismatch => texts::BASE_MISMATCH.as_bytes(),
+            PortFault::DeviceFailed => texts::DEVICE_FAILED.as_bytes(),
+            PortFault::Failed => texts::FAILED.as_bytes(),
+            PortFault::LogFull => texts::LOG_FULL.as_bytes(),
+            PortFault::OutOfMemory => texts::OUT_OF_MEMORY.as_bytes(),
         }
     }
 }
@@ -71,13 +72,13 @@ impl PortFault {
 #[derive(Clone, Copy, Debug, PartialEq, Eq, Drop, Error)]
 pub enum ServeFault {
     /// The reader failed (49).
-    #[error("stream failed")]
+    #[error("{}", texts::PEER_FAILED)]
     ReadFailed,
     /// The writer failed (49).
-    #[error("stream failed")]
+    #[error("{}", texts::PEER_FAILED)]
     WriteFailed,
     /// A growth of the session's own was refused (70).
-    #[error("out of memory")]
+    #[error("{}", texts::OUT_OF_MEMORY)]
     OutOfMemory,
 }
 

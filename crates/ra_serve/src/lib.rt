@@ -9,12 +9,15 @@
 //! `served` of [`serve`] is on these.
 #![tactic(auto)]
 
+pub use ask::{asked, props_asked, revision, tree_asked};
 pub use client::ClientItems;
-pub use counted::{Unserved, serve};
+pub use counted::{Unserved, judged, serve};
 pub use fault::{End, PortFault, ServeFault};
 pub use held_repo::HeldRepo;
 pub use held_store::{HeldStore, port_fault};
 pub use port::{Replay, RepoPort};
+pub use session::{logs_in, write_identity, write_realm};
+pub use text::{hex_of, write_wanted};
 
 mod answer;
 mod ask;
@@ -28,5 +31,6 @@ mod held_store;
 mod port;
 mod replay;
 mod session;
+mod text;
 mod told;
 mod unflushed;

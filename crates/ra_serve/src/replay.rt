@@ -2,6 +2,7 @@
 
 ghost use Rattle.std.specs.Prelude.{◌≡◌, ◌<◌, ◌≤◌, ◌++◌, length, Some, None, IfOk};
 ghost use Rattle.std.specs.Io.KnownBytes.{Appends};
+ghost use Rattle.node_base.specs.declared.limits.TheConstants.{REVISION};
 ghost use Rattle.editor_ends.specs.Drive.{drive};
 ghost use Rattle.ra_item.specs.Items.{spell};
 ghost use Rattle.ra_edit.specs.Commands.{edit_bytes};
@@ -33,7 +34,7 @@ fn write_edit<W: Write + Drop>(
     set: &ChangeSet,
     out: W,
 ) -> Result<W, ServeFault>
-    requires few { length trees.now ≤ 65535 }
+    requires few { length trees.now ≤ REVISION }
     ensures { IfOk result (λ w. Appends (W.contents out) (W.contents w) (edit_bytes (drive trees.now set.now))) }
 {
     match send_set(alloc, trees, set, Unflushed { inner: out }) {
@@ -50,7 +51,7 @@ fn write_revision<W: Write + Drop>(
     replay: &Replay,
     out: W,
 ) -> Result<W, ServeFault>
-    requires few { length trees.now ≤ 65535 }
+    requires few { length trees.now ≤ REVISION }
     ensures { IfOk result (λ w. Appends (W.contents out) (W.contents w)
         (spell (revprops replay.now.props) ++ edit_bytes (drive trees.now replay.now.set))) }
 {

@@ -168,8 +168,8 @@ fn log_in<P: RepoPort, I: Input + Drop, W: HandsOn + Drop>(
     }
 }
 
-// Whether a client says in the one way that is taken who it is; none for an item of another shape.
-fn logs_in(item: Item) -> Result<Option<bool>, ServeFault>
+/// Whether a client says in the one way that is taken who it is; none for an item of another shape. OutOfMemory (70).
+pub fn logs_in(item: Item) -> Result<Option<bool>, ServeFault>
     ensures told { IfOk result (λ o. o ≡ option_map is_anonymous (login_in item)) }
     ensures reader { IfErr result (λ f. f ≡ ServeFault.ReadFailed → ⊥) }
 {
@@ -198,7 +198,8 @@ fn ask_who<W: HandsOn + Drop>(identity: &Uuid, out: W) -> Result<W, ServeFault>
     flushed(out)
 }
 
-fn write_realm<W: Write>(out: &mut W, identity: &Uuid) -> io::Result<()>
+/// Writes the ways in which a client may say who it is, in the realm of a repository. An `Err` is the writer's.
+pub fn write_realm<W: Write>(out: &mut W, identity: &Uuid) -> io::Result<()>
     ensures { OnOk result (Appends (W.contents out.old) (W.contents out.new)
         (spell (mechanisms (hyphenated_text lower identity.now)))) }
 {
@@ -220,7 +221,8 @@ fn welcome<W: HandsOn + Drop>(identity: &Uuid, root_url: &[u8], out: W) -> Resul
     flushed(out)
 }
 
-fn write_identity<W: Write>(out: &mut W, identity: &Uuid, root_url: &[u8]) -> io::Result<()>
+/// Writes the identity of a repository and its root, the end of an opening. An `Err` is the writer's.
+pub fn write_identity<W: Write>(out: &mut W, identity: &Uuid, root_url: &[u8]) -> io::Result<()>
     ensures { OnOk result (Appends (W.contents out.old) (W.contents out.new)
         (spell (welcome (hyphenated_text lower identity.now) root_url.now))) }
 {

@@ -5,6 +5,7 @@ ghost use Rattle.std.specs.Io.KnownBytes.{Appends};
 ghost use Rattle.dump_load.specs.Changes.{IsNormal};
 ghost use Rattle.dump_load.specs.Faults.{fault};
 ghost use Rattle.node_base.specs.Tree.{IsDirAt, base};
+ghost use Rattle.node_base.specs.declared.limits.TheConstants.{REVISION};
 ghost use Rattle.ra_edit.specs.Commands.{edit_bytes};
 ghost use Rattle.ra_item.specs.Items.{spell};
 ghost use Rattle.ra_update.specs.Sent.{calls_told, end_item, IsUnsent};
@@ -28,7 +29,7 @@ pub fn send_changes<W: Write + Drop>(
     facts: &Facts<'_>,
     out: W,
 ) -> Result<W, EditorFault>
-    requires few { length trees.now ≤ 65535 }
+    requires few { length trees.now ≤ REVISION }
     requires root { IsDirAt (base trees.now) [] }
     requires normal { IsNormal changes.now }
     ensures written { IfOk result (λ w. Appends (W.contents out) (W.contents w)

@@ -9,6 +9,7 @@ use Rattle.node_base.specs.PathText.{name_read}
 use Rattle.node_base.specs.Props.{PropMap, props_fit}
 use Rattle.node_base.specs.declared.node.NodeKind.{NodeKind}
 use Rattle.node_base.specs.declared.node.NodeKind.TheVariants as kind
+use Rattle.node_base.specs.declared.limits.TheConstants.{PROP_VALUE_BYTES}
 use Rattle.ra_wire.specs.Params.{Read, parts_in, word_in, text_in, number_in, list_in, bool_in, prop_name_in, bracketed, each, right, left_of}
 use Rattle.ra_wire.specs.declared.reply.Refused as declared_refused
 use Rattle.ra_wire.specs.declared.reply.Reply as declared_reply
@@ -63,7 +64,7 @@ kind_in _ = None
 
 -- ( name value ), each within the limits
 abbrev pub short_value : List ℕ → Option (List ℕ)
-short_value v = if nat_lt 65536 (length v) then None else Some v
+short_value v = if nat_lt PROP_VALUE_BYTES (length v) then None else Some v
 
 abbrev pub property_in : Item → Option (Name × List ℕ)
 property_in item = option_and_then (λ xs. option_and_then (λ n. option_and_then (λ t. option_map (λ v. (n.0, v)) (short_value t.0)) (text_in n.1)) (prop_name_in xs)) (parts_in item)

@@ -7,6 +7,7 @@ use Rattle.node_base.specs.Path.{Name}
 use Rattle.node_base.specs.PathText.{name_read}
 use Rattle.node_base.specs.Props.{PropMap, prop_name_read, props_fit}
 use Rattle.node_base.specs.declared.node.NodeKind.{NodeKind}
+use Rattle.node_base.specs.declared.limits.TheConstants.{PROP_VALUE_BYTES}
 use Rattle.ra_wire.specs.Commands.{truth_word}
 use Rattle.ra_wire.specs.Openings.{Greeting, Hello, Mechanisms, Login, Welcome}
 use Rattle.ra_wire.specs.Answers.{Refused, Reply, Success, Failure, Dirent, FileFound, DirFound}
@@ -94,7 +95,7 @@ IsValue v items = (a : Items) × Begins (perhaps_text v a ∷ []) items
 
 -- ( name value ), within the limits
 abbrev pub IsProperty : Name × List ℕ → Item → Type 0
-IsProperty e item = IsList (Text e.0 ∷ Text e.1 ∷ []) item × (prop_name_read e.0 ≡ Ok e.0) × (length e.1 ≤ 65536)
+IsProperty e item = IsList (Text e.0 ∷ Text e.1 ∷ []) item × (prop_name_read e.0 ≡ Ok e.0) × (length e.1 ≤ PROP_VALUE_BYTES)
 
 -- properties that are put among others one after another, always within the limits; the later of two with one name counts
 abbrev pub Put : PropMap → List (Name × List ℕ) → PropMap → Type 0

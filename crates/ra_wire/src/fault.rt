@@ -4,6 +4,7 @@ ghost use Rattle.std.specs.Prelude.{◌≡◌};
 ghost use Rattle.ra_wire.specs.Faults.{number_of_fault};
 ghost use Rattle.ra_wire.specs.declared.fault.WireFault.TheVariants.{OutOfMemory};
 
+use node_base::texts;
 use std::alloc::{AllocError, AllocFailed};
 use thiserror::Error;
 
@@ -11,16 +12,16 @@ use thiserror::Error;
 #[derive(Clone, Copy, Debug, PartialEq, Eq, Drop, Error)]
 pub enum WireFault {
     /// A replay against another revision than 0, or without texts (43).
-    #[error("replay form not supported")]
+    #[error("{}", texts::REPLAY_FORM)]
     ReplayForm,
     /// A command of another name (47).
-    #[error("unknown command")]
+    #[error("{}", texts::UNKNOWN_COMMAND)]
     UnknownCommand,
     /// An item of another shape, a path or a property's name that is none (48).
-    #[error("bad command shape")]
+    #[error("{}", texts::BAD_SHAPE)]
     BadShape,
     /// A growth was refused (70).
-    #[error("out of memory")]
+    #[error("{}", texts::OUT_OF_MEMORY)]
     OutOfMemory,
 }
 

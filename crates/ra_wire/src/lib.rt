@@ -25,7 +25,7 @@ pub mod fault;
 pub mod law;
 pub mod opening;
 pub mod params;
-mod pieces;
+pub mod pieces;
 pub mod props;
 pub mod props_fault;
 pub mod reply;

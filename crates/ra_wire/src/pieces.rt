@@ -1,4 +1,4 @@
-//! Pieces of what is written: names with brackets, words, strings that may be missing, properties.
+//! Pieces of what is written: names with brackets, words, strings that may be missing, properties, paths, kinds.
 //!
 //! Each `Err` is the writer's own; then some of the bytes may have been written.
 
@@ -9,9 +9,10 @@ ghost use Rattle.std.specs.Io.KnownBytes.{Appends};
 ghost use Rattle.ra_item.specs.Items.{spell, spell_all, row, Word, Number, Text};
 ghost use Rattle.node_base.specs.PathText.{path_text};
 ghost use Rattle.ra_wire.specs.Commands.{truth_word};
-ghost use Rattle.ra_wire.specs.Replies.{before, behind, list, number_or_none, property, properties, string};
+ghost use Rattle.ra_wire.specs.Replies.{before, behind, list, node_kind_word, number_or_none};
+ghost use Rattle.ra_wire.specs.Replies.{properties, property, string};
 
-use node_base::{NodePath, PropName, PropValue, Props};
+use node_base::{NodeKind, NodePath, PropName, PropValue, Props};
 use ra_item::writer::{write_close, write_number, write_open, write_text, write_word};
 use std::io;
 use std::io::Write;
@@ -37,8 +38,7 @@ pub fn write_end<W: Write>(out: &mut W) -> io::Result<()>
 pub fn write_none<W: Write>(out: &mut W) -> io::Result<()>
     ensures { OnOk result (Appends (W.contents out.old) (W.contents out.new) (spell (list []))) }
 {
-    write_open(out)?;
-    write_close(out)
+    out.write_all(b"( ) ")
 }
 
 /// One word in brackets.
@@ -127,9 +127,9 @@ pub fn write_truth<W: Write>(out: &mut W, b: bool) -> io::Result<()>
     ensures { OnOk result (Appends (W.contents out.old) (W.contents out.new) (spell (Word (truth_word b)))) }
 {
     if b {
-        write_word(out, b"true")
+        out.write_all(b"true ")
     } else {
-        write_word(out, b"false")
+        out.write_all(b"false ")
     }
 }
 
@@ -153,5 +153,25 @@ pub fn write_text_or_none<W: Write>(out: &mut W, value: &Option<Vec<u8>>) -> io:
             write_text(out, value.as_slice())?;
             write_close(out)
         }
+    }
+}
+
+/// A kind of a node as a word.
+pub fn write_kind_word<W: Write>(out: &mut W, kind: NodeKind) -> io::Result<()>
+    ensures { OnOk result (Appends (W.contents out.old) (W.contents out.new) (spell (Word (node_kind_word kind)))) }
+{
+    match kind {
+        NodeKind::File => write_word(out, b"file"),
+        NodeKind::Dir => write_word(out, b"dir"),
+    }
+}
+
+/// A kind of a node as a string.
+pub fn write_kind_text<W: Write>(out: &mut W, kind: NodeKind) -> io::Result<()>
+    ensures { OnOk result (Appends (W.contents out.old) (W.contents out.new) (spell (Text (node_kind_word kind)))) }
+{
+    match kind {
+        NodeKind::File => write_text(out, b"file"),
+        NodeKind::Dir => write_text(out, b"dir"),
     }
 }

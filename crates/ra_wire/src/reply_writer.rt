@@ -9,14 +9,14 @@ ghost use Rattle.std.specs.Io.KnownBytes.{Appends};
 ghost use Rattle.ra_item.specs.Items.{spell, spell_all, row, Word, Number, Text};
 ghost use Rattle.ra_wire.specs.Replies.{answer_of, list, greeting, mechanisms, only_anonymous, welcome, authorised};
 ghost use Rattle.ra_wire.specs.Replies.{done, number, failure, properties, proplist, revprops, string, value, kind_is};
-ghost use Rattle.ra_wire.specs.Replies.{node_kind_word, dirent, wanted_props, file_found, dir_found};
+ghost use Rattle.ra_wire.specs.Replies.{dirent, wanted_props, file_found, dir_found};
 ghost use Rattle.ra_wire.specs.Answers.{dirent_as};
 ghost use Rattle.ra_wire.specs.Commands.{truth_word};
 ghost use Rattle.std.specs.List.{flat_map};
 
 use crate::dirent::Dirent;
 use crate::pieces::{
-    write_end, write_name, write_none, write_one, write_properties, write_string,
+    write_end, write_kind_word, write_name, write_none, write_one, write_properties, write_string,
     write_text_or_none, write_truth, write_two,
 };
 use node_base::{NodeKind, NodeName, Props, RevNo};
@@ -24,8 +24,13 @@ use ra_item::writer::{write_close, write_number, write_open, write_text, write_w
 use std::io;
 use std::io::Write;
 
-// The greeting, with its name and two capabilities.
-fn write_versions<W: Write>(out: &mut W, name: &[u8], first: &[u8], second: &[u8]) -> io::Result<()>
+/// A greeting of version 2, with its name and two capabilities.
+pub fn write_versions<W: Write>(
+    out: &mut W,
+    name: &[u8],
+    first: &[u8],
+    second: &[u8],
+) -> io::Result<()>
     ensures { OnOk result (Appends (W.contents out.old) (W.contents out.new)
         (spell (answer_of name.now (Number 2 ∷ Number 2 ∷ list [] ∷ list (Word first.now ∷ Word second.now ∷ [])
         ∷ [])))) }
@@ -257,16 +262,6 @@ pub fn write_wanted<W: Write>(out: &mut W, props: &Props, wanted: bool) -> io::R
     }
 }
 
-// A kind of a node.
-fn write_node_kind<W: Write>(out: &mut W, kind: NodeKind) -> io::Result<()>
-    ensures { OnOk result (Appends (W.contents out.old) (W.contents out.new) (spell (Word (node_kind_word kind)))) }
-{
-    match kind {
-        NodeKind::File => write_word(out, b"file"),
-        NodeKind::Dir => write_word(out, b"dir"),
-    }
-}
-
 // A name of a file or a directory.
 fn write_node_name<W: Write>(out: &mut W, name: &NodeName) -> io::Result<()>
     ensures { OnOk result (Appends (W.contents out.old) (W.contents out.new) (spell (Text name.now))) }
@@ -299,7 +294,7 @@ pub fn write_dirent<W: Write>(out: &mut W, entry: &Dirent) -> io::Result<()>
 {
     write_open(out)?;
     write_node_name(out, &entry.name)?;
-    write_node_kind(out, entry.kind)?;
+    write_kind_word(out, entry.kind)?;
     write_number(out, entry.size)?;
     write_rest(
         out,

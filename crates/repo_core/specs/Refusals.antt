@@ -8,6 +8,7 @@ use Rattle.node_base.specs.Props.{PropMap, props_fit}
 use Rattle.node_base.specs.Refusals.{refusal_number}
 use Rattle.node_base.specs.declared.refusal.Refusal.{Refusal}
 use Rattle.node_base.specs.declared.refusal.Refusal.TheVariants as table
+use Rattle.node_base.specs.declared.limits.TheConstants.{PROP_NAME_BYTES, PROP_VALUE_BYTES, REVISION}
 use Rattle.dump_load.specs.Faults.{fault_if, first_of, fault, refused, change_refusal}
 use Rattle.repo_core.specs.Repository.{Revision, trees_of, head_of, props_at}
 use Rattle.repo_core.specs.Entries.{Entry, Revised, Mapped}
@@ -18,7 +19,7 @@ use Rattle.repo_core.specs.declared.fault.RepoFault.TheVariants as refusal
 
 -- a name within 255 bytes and a value within 65,536
 abbrev pub is_short : Name × List ℕ → Bool
-is_short e = nat_le (length e.0) 255 && nat_le (length e.1) 65536
+is_short e = nat_le (length e.0) PROP_NAME_BYTES && nat_le (length e.1) PROP_VALUE_BYTES
 
 -- a map within the limits: each name and value, and how many there are
 abbrev pub within_limits : PropMap → Bool
@@ -32,7 +33,7 @@ limit_fault m = fault_if (not (within_limits m)) refusal.TooLong
 -- revision that isn't there; then a map past the limits
 abbrev pub by_repository : List Revision → Entry → Option RepoFault
 by_repository x (Revised n set props) =
-    first_of (fault_if (nat_lt 65535 (length x)) refusal.Full ∷ option_map (λ f. refusal.Change (refused f)) (fault (trees_of x) set) ∷ limit_fault props ∷ [])
+    first_of (fault_if (nat_lt REVISION (length x)) refusal.Full ∷ option_map (λ f. refusal.Change (refused f)) (fault (trees_of x) set) ∷ limit_fault props ∷ [])
 by_repository x (Mapped n props) = first_of (fault_if (nat_le (length x) n) refusal.NoSuchRevision ∷ limit_fault props ∷ [])
 
 -- a commit is made against the head

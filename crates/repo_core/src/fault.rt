@@ -3,7 +3,7 @@ ghost use Rattle.std.specs.Prelude.{◌≡◌};
 ghost use Rattle.repo_core.specs.Refusals.{number_of, repo_refusal};
 
 use dump_load::{ChangeFault, change_refusal};
-use node_base::{PropValue, Refusal, RevNo};
+use node_base::{PropValue, Refusal, RevNo, texts};
 use std::alloc::{AllocError, AllocFailed};
 use thiserror::Error;
 
@@ -11,13 +11,13 @@ use thiserror::Error;
 #[derive(Debug, Drop, Error)]
 pub enum RepoFault {
     /// A revision above the head (21).
-    #[error("no such revision")]
+    #[error("{}", texts::NO_SUCH_REVISION)]
     NoSuchRevision,
     /// A conditional change of a property found another value than it expected, or none: this one (22).
-    #[error("the property is not as expected")]
+    #[error("{}", texts::BASE_MISMATCH)]
     BaseMismatch(Option<PropValue>),
     /// The head is 65,535, the last revision that can be (23).
-    #[error("no more revisions")]
+    #[error("{}", texts::FULL)]
     Full,
     /// A commit against an earlier revision than the head, which is told (25).
     #[error("the base is not the head {0}")]
@@ -28,10 +28,10 @@ pub enum RepoFault {
     #[error("{0}")]
     Change(ChangeFault),
     /// Properties past the limits: a value, or how many there are (8).
-    #[error("limit exceeded")]
+    #[error("{}", texts::TOO_LONG)]
     TooLong,
     /// A growth was refused (70).
-    #[error("out of memory")]
+    #[error("{}", texts::OUT_OF_MEMORY)]
     OutOfMemory,
 }
 

@@ -11,6 +11,7 @@ ghost use Rattle.repo_core.specs.Staging.{IsReady};
 
 use crate::{Entry, Staged};
 use dump_load::ChangeSet;
+use node_base::limits::REVISION;
 use node_base::{Props, RevNo};
 use path_tree::Tree;
 use std::alloc::{AllocError, Global};
@@ -18,7 +19,7 @@ use std::marker::Model;
 use uuid::Uuid;
 
 // How many revisions there can be: 0 to 65,535.
-const REVISIONS: usize = 65_536;
+const REVISIONS: usize = REVISION as usize + 1;
 
 /// A repository, seen by contracts as its identity, its revisions (each a tree and a property map), and the set of
 /// changes that made the tree of each. Trees share what they have in common. Room for all revisions that can be is
@@ -152,7 +153,7 @@ impl Repo {
 
     // The revision after the head.
     fn push(&mut self, set: ChangeSet, props: Props, tree: Tree)
-        requires room { length self.old.revisions ≤ 65535 }
+        requires room { length self.old.revisions ≤ REVISION }
         requires made { Makes (trees_of self.old.revisions) set tree }
         ensures { self.new ≡ with_entry_in self.old (Revised (length self.old.revisions) set props) }
     {

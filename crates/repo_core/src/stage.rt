@@ -13,6 +13,7 @@ ghost use Rattle.repo_core.specs.declared.fault.RepoFault.TheVariants.{Full, NoS
 use crate::maps::{dated, value_at, with_value};
 use crate::{Expected, Moment, Repo, RepoFault, Staged};
 use dump_load::{Applied, ChangeSet, apply};
+use node_base::limits::REVISION;
 use node_base::{PropName, Props, RevNo};
 use std::alloc::Global;
 
@@ -54,7 +55,7 @@ impl Repo {
         ensures ready { IfOk result (IsReady self.now.revisions) }
         ensures refused { IfErr result (λ e. by_repository self.now.revisions
             (Revised (length self.now.revisions) applied.set props) ≡ Some e) }
-        ensures room { length self.now.revisions ≤ 65535 → IsOk result }
+        ensures room { length self.now.revisions ≤ REVISION → IsOk result }
     {
         let _ = props.entries();
         match self.next_number() {
@@ -111,11 +112,11 @@ impl Repo {
     // The number after the head's.
     fn next_number(&self) -> Result<RevNo, RepoFault>
         ensures number { IfOk result (λ n. n ≡ length self.now.revisions) }
-        ensures room { OnOk result (length self.now.revisions ≤ 65535) }
-        ensures full { IfErr result (λ e. (e ≡ Full) × (65535 < length self.now.revisions)) }
+        ensures room { OnOk result (length self.now.revisions ≤ REVISION) }
+        ensures full { IfErr result (λ e. (e ≡ Full) × (REVISION < length self.now.revisions)) }
     {
         let number = self.trees().len();
-        if number > 65_535 {
+        if number > REVISION as usize {
             return Err(RepoFault::Full);
         }
         Ok(RevNo::new(number as u16))

@@ -1,5 +1,6 @@
 //! A range of revisions as it comes from a server.
 ghost use Rattle.std.specs.Prelude.{◌≡◌, ◌≤◌, ◌<◌, ◌-◌, ◌++◌, suc, Bool, None, [], ◌∷◌, length, OnOk, IfErr};
+ghost use Rattle.node_base.specs.declared.limits.TheConstants.{REVISION};
 ghost use Rattle.ra_client.specs.Steps.{IsLater};
 ghost use Rattle.ra_item.specs.Items.{spell};
 ghost use Rattle.ra_serve.specs.Answers.{answer, edits, revision_bytes};
@@ -162,7 +163,7 @@ fn take_next<I: Input + Drop>(
     trees: &[Tree],
     items: &mut ItemStream<I>,
 ) -> Result<Heard, ClientFault>
-    requires few { length trees.now ≤ 65535 }
+    requires few { length trees.now ≤ REVISION }
     ensures heard { HearsNext trees.now items.old items.new result }
     ensures later { OnOk result (IsLater items.old items.new) }
 {
@@ -181,7 +182,7 @@ fn take_edit<I: Input + Drop>(
     props: Props,
     items: &mut ItemStream<I>,
 ) -> Result<Heard, ClientFault>
-    requires few { length trees.now ≤ 65535 }
+    requires few { length trees.now ≤ REVISION }
     ensures heard { HearsEdit trees.now props items.old items.new result }
     ensures later { OnOk result (IsLater items.old items.new) }
 {

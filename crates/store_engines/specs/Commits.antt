@@ -13,6 +13,7 @@ use Rattle.node_base.specs.declared.node.Action.TheVariants.{Add}
 use Rattle.node_base.specs.declared.node.NodeKind.TheVariants.{Dir}
 use Rattle.node_base.specs.declared.refusal.Refusal.{Refusal}
 use Rattle.node_base.specs.declared.refusal.Refusal.TheVariants as refusal
+use Rattle.node_base.specs.declared.limits.TheConstants.{PROP_VALUE_BYTES}
 use Rattle.dump_load.specs.declared.change.Change.{Change}
 use Rattle.repo_core.specs.Dates.{dated}
 use Rattle.repo_core.specs.Repository.{Repository, Revision}
@@ -68,5 +69,5 @@ pub record IsCommitted (x : Repository) (bytes message : List ℕ) (moment : Dat
 pub data NotCommitted {D : Type 0} {G : Ghosts D} (x : Repository) (bytes message : List ℕ) (moment : DateTime) (store : RepoStore D G) (before now : Option (List ℕ)) (fails : Type 0) (e : Refusal) : Type 0 where
   commit_refused : directory_fault x.revisions bytes message moment ≡ Some e → repository_of store ≡ x → now ≡ before → NotCommitted x bytes message moment store before now fails e
   commit_stops : e ≡ refusal.OutOfMemory → repository_of store ≡ x → now ≡ before → NotCommitted x bytes message moment store before now fails e
-  commit_not_kept : (path : Path) (entry : Entry) → path_read bytes ≡ Ok path → (entry ≡ directory_entry x.revisions path message moment) ⊎ ((65536 < length message) × (entry ≡ bare_entry x.revisions path moment)) → CantKeep store entry e → repository_of store ≡ x → now ≡ before → NotCommitted x bytes message moment store before now fails e
+  commit_not_kept : (path : Path) (entry : Entry) → path_read bytes ≡ Ok path → (entry ≡ directory_entry x.revisions path message moment) ⊎ ((PROP_VALUE_BYTES < length message) × (entry ≡ bare_entry x.revisions path moment)) → CantKeep store entry e → repository_of store ≡ x → now ≡ before → NotCommitted x bytes message moment store before now fails e
   commit_unsaid : (path : Path) → path_read bytes ≡ Ok path → directory_fault x.revisions bytes message moment ≡ None → repository_of store ≡ with_entry_in x (directory_entry x.revisions path message moment) → fails → e ≡ refusal.PeerFailed → NotCommitted x bytes message moment store before now fails e

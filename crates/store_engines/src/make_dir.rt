@@ -80,7 +80,7 @@ fn message_name(alloc: Global) -> Result<PropName, AllocError>
 
 // The properties of a revision with that message.
 fn logged(alloc: Global, message: &str) -> Result<Props, AllocError>
-    requires small { length message.now ≤ 65536 }
+    requires small { length message.now ≤ PROP_VALUE_BYTES }
     ensures { IfOk result (λ p. p ≡ logged message.now) }
 {
     let name = message_name(alloc)?;
@@ -104,7 +104,7 @@ fn refused_message<D: Disk + Drop>(
     ensures due { (result ≡ Refusal.OutOfMemory)
         ⊎ ((path : Path) → set ≡ directory_set path
         → CantKeep store.new (bare_entry (revisions_of store.old) path moment) result)
-        ⊎ ((path : Path) (message : List ℕ) → set ≡ directory_set path → 65536 < length message
+        ⊎ ((path : Path) (message : List ℕ) → set ≡ directory_set path → PROP_VALUE_BYTES < length message
         → option_map repo_refusal (entry_fault (revisions_of store.old)
         (directory_entry (revisions_of store.old) path message moment)) ≡ Some result) }
     ensures same { repository_of store.new ≡ repository_of store.old }

@@ -2,7 +2,7 @@
 ghost use Rattle.std.specs.Prelude.{◌≡◌};
 ghost use Rattle.store_share.specs.Faults.{number_of};
 
-use node_base::Refusal;
+use node_base::{Refusal, texts};
 use std::alloc::{AllocError, AllocFailed};
 use thiserror::Error;
 
@@ -10,10 +10,10 @@ use thiserror::Error;
 #[derive(Debug, Drop, Error)]
 pub enum RowFault {
     /// The cell refuses its box, since it shows a revision already (32).
-    #[error("failed before")]
+    #[error("{}", texts::FAILED)]
     Failed,
     /// A growth was refused (70).
-    #[error("out of memory")]
+    #[error("{}", texts::OUT_OF_MEMORY)]
     OutOfMemory,
 }
 

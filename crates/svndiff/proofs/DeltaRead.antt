@@ -22,6 +22,7 @@ use Rattle.svndiff.specs.declared.window.Awaited.{Awaited}
 use Rattle.svndiff.specs.declared.window.Awaited.TheVariants as at
 use Rattle.svndiff.specs.declared.window.Window.{Window}
 use Rattle.svndiff.specs.Reading.{digit}
+use Rattle.svndiff.specs.declared.limits.TheConstants.{TEXT_BYTES, WINDOW_BYTES}
 use Rattle.svndiff.proofs.Runs.{lt_true, lt_false, both}
 use Rattle.svndiff.proofs.Read.{negated, ends_some, number_after-ge, digit_whole, digit_goes, nonzero, same_number}
 use Rattle.svndiff.proofs.DeltaRuns.{data_run}
@@ -364,12 +365,12 @@ body_read base text w both_bytes both both_sums both_news new more (More bytes f
     )
 
 -- the numbers in front of a window are judged
-judged_by : (size : ℕ) (w : Window) (t : Bool) → (w.source == 0) ≡ t → w.target ≤ 102400 → w.fresh ≤ 102400 → w.source ≤ 102400 → w.target ≤ w.room → (w.source ≡ 0) ⊎ (w.offset + w.source ≤ size) → SlidesOn w.floor w.ceiling w.offset w.source → judged size w ≡ go_on None (record w { sum = 0; news = 0; floor = last_of w.source w.floor w.offset; ceiling = last_of w.source w.ceiling (w.offset + w.source) })
-judged_by size w true z a b c d inside slides = rw (lt_false 102400 w.target a, lt_false 102400 w.fresh b, lt_false 102400 w.source c, lt_false w.room w.target d, z) refl
+judged_by : (size : ℕ) (w : Window) (t : Bool) → (w.source == 0) ≡ t → w.target ≤ WINDOW_BYTES → w.fresh ≤ WINDOW_BYTES → w.source ≤ WINDOW_BYTES → w.target ≤ w.room → (w.source ≡ 0) ⊎ (w.offset + w.source ≤ size) → SlidesOn w.floor w.ceiling w.offset w.source → judged size w ≡ go_on None (record w { sum = 0; news = 0; floor = last_of w.source w.floor w.offset; ceiling = last_of w.source w.ceiling (w.offset + w.source) })
+judged_by size w true z a b c d inside slides = rw (lt_false WINDOW_BYTES w.target a, lt_false WINDOW_BYTES w.fresh b, lt_false WINDOW_BYTES w.source c, lt_false w.room w.target d, z) refl
 judged_by size w false z a b c d (inl e) slides = absurd (grind (arith, nat_tests, z, e))
 judged_by size w false z a b c d (inr h) (inl e) = absurd (grind (arith, nat_tests, z, e))
 judged_by size w false z a b c d (inr h) (inr (f, g)) =
-    rw (lt_false 102400 w.target a, lt_false 102400 w.fresh b, lt_false 102400 w.source c, lt_false w.room w.target d, z, lt_false size w.source (omega (arith, h)), lt_false (size - w.source) w.offset (omega (arith, h)), lt_false w.offset w.floor f, lt_false (w.offset + w.source) w.ceiling g) refl
+    rw (lt_false WINDOW_BYTES w.target a, lt_false WINDOW_BYTES w.fresh b, lt_false WINDOW_BYTES w.source c, lt_false w.room w.target d, z, lt_false size w.source (omega (arith, h)), lt_false (size - w.source) w.offset (omega (arith, h)), lt_false w.offset w.floor f, lt_false (w.offset + w.source) w.ceiling g) refl
 
 regroup : (a b c d e f g more : List ℕ) → (a ++ (b ++ (c ++ (d ++ (e ++ (f ++ g)))))) ++ more ≡ a ++ (b ++ (c ++ (d ++ (e ++ (f ++ (g ++ more))))))
 regroup a b c d e f g more =
@@ -439,7 +440,7 @@ windows_read base text both_floors both_ceilings both_bytes both_texts more w e 
     )
 
 abbrev start : Window
-start = record { place = at.Between; offset = 0; source = 0; target = 0; instructions = 0; fresh = 0; sum = 0; news = 0; room = 1048576; floor = 0; ceiling = 0 }
+start = record { place = at.Between; offset = 0; source = 0; target = 0; instructions = 0; fresh = 0; sum = 0; news = 0; room = TEXT_BYTES; floor = 0; ceiling = 0 }
 
 pub deltas_are_read : (bytes base text : List ℕ) → IsDelta bytes base text → IsDeltaRead bytes base text
 deltas_are_read bytes base text d =

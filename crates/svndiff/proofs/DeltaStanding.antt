@@ -24,6 +24,7 @@ use Rattle.svndiff.specs.declared.window.Awaited.{Awaited}
 use Rattle.svndiff.specs.declared.window.Awaited.TheVariants as at
 use Rattle.svndiff.specs.declared.window.Window.{Window}
 use Rattle.svndiff.specs.Reading.{digit}
+use Rattle.svndiff.specs.declared.limits.TheConstants.{TEXT_BYTES, WINDOW_BYTES}
 use Rattle.svndiff.proofs.Runs.{lt_from, both}
 use Rattle.svndiff.proofs.Standing.{Begun, none_begun, digit_fine, snoc3, snoc4, le_from, eq_from, positive, or_false}
 use Rattle.svndiff.proofs.DeltaRuns.{reading-append, is_right, TakesRight}
@@ -44,9 +45,9 @@ pub record Judged (base text front numbers : List ℕ) (offset source target roo
   pub last_ceiling : ℕ
   pub whole : WholeDeltas base front text last_floor last_ceiling room
   pub are : DeltaNumbers offset source target size fresh numbers
-  pub short : target ≤ 102400
-  pub short_new : fresh ≤ 102400
-  pub short_view : source ≤ 102400
+  pub short : target ≤ WINDOW_BYTES
+  pub short_new : fresh ≤ WINDOW_BYTES
+  pub short_view : source ≤ WINDOW_BYTES
   pub fits : target ≤ room
   pub inside : (source ≡ 0) ⊎ (offset + source ≤ length base)
   pub slides : SlidesOn last_floor last_ceiling offset source
@@ -63,7 +64,7 @@ IsCopy kind.New = ⊥
 
 -- what is behind so many bytes, at each place
 abbrev pub Part : List ℕ → Awaited → Window → List Instruction → List ℕ → List ℕ → List ℕ → Type 0
-Part base (at.Magic k) w is new text bytes = (k ≤ 3) × (text ≡ []) × (w.room ≡ 1048576) × (w.floor ≡ 0) × (w.ceiling ≡ 0) × (is ≡ []) × (new ≡ []) × (bytes ≡ take k (83 ∷ 86 ∷ 78 ∷ 0 ∷ []))
+Part base (at.Magic k) w is new text bytes = (k ≤ 3) × (text ≡ []) × (w.room ≡ TEXT_BYTES) × (w.floor ≡ 0) × (w.ceiling ≡ 0) × (is ≡ []) × (new ≡ []) × (bytes ≡ take k (83 ∷ 86 ∷ 78 ∷ 0 ∷ []))
 Part base at.Between w is new text bytes = WholeDeltas base bytes text w.floor w.ceiling w.room × (is ≡ []) × (new ≡ [])
 Part base (at.Head f count n) w is new text bytes =
     (front numbers digits : List ℕ) × WholeDeltas base front text w.floor w.ceiling w.room × InFront f w.offset w.source w.target w.instructions numbers × Begun digits count n × (is ≡ []) × (new ≡ []) × (bytes ≡ front ++ (numbers ++ digits))
@@ -234,7 +235,7 @@ offset_fine base k m count n w is new text bytes b (front, numbers, made, first,
     tt
 
 -- the numbers in front of a window are there
-past_one : (target fresh source room : ℕ) → (nat_lt 102400 target || nat_lt 102400 fresh || nat_lt 102400 source || nat_lt room target) ≡ true → IsPast target fresh source room
+past_one : (target fresh source room : ℕ) → (nat_lt WINDOW_BYTES target || nat_lt WINDOW_BYTES fresh || nat_lt WINDOW_BYTES source || nat_lt room target) ≡ true → IsPast target fresh source room
 past_one target fresh source room e = grind (arith, nat_tests)
 
 -- a view that fits is inside the base, and slides on
@@ -254,12 +255,12 @@ none_last_of n old new e = rw e refl
 
 judged_fine : (base : List ℕ) (w : Window) (is : List Instruction) (new text bytes front numbers : List ℕ) → WholeDeltas base front text w.floor w.ceiling w.room → DeltaNumbers w.offset w.source w.target w.instructions w.fresh numbers → is ≡ [] → new ≡ [] → bytes ≡ front ++ numbers → Fine base is new text bytes (judged (length base) w)
 judged_fine base w is new text bytes front numbers whole are i e j =
-    if_fine (Fine base is new text bytes) (nat_lt 102400 w.target || nat_lt 102400 w.fresh || nat_lt 102400 w.source || nat_lt w.room w.target) _ _
+    if_fine (Fine base is new text bytes) (nat_lt WINDOW_BYTES w.target || nat_lt WINDOW_BYTES w.fresh || nat_lt WINDOW_BYTES w.source || nat_lt w.room w.target) _ _
     (λ past. record { front = front; numbers = numbers; floor = w.floor; ceiling = w.ceiling; room = w.room; offset = w.offset; source = w.source; target = w.target; size = w.instructions; fresh = w.fresh; whole = whole; are = are; past = past_one w.target w.fresh w.source w.room past; joined = j })
     (λ limits.
-    let p = or_false (nat_lt 102400 w.target || nat_lt 102400 w.fresh || nat_lt 102400 w.source) (nat_lt w.room w.target) limits in
-    let q = or_false (nat_lt 102400 w.target || nat_lt 102400 w.fresh) (nat_lt 102400 w.source) p.0 in
-    let r = or_false (nat_lt 102400 w.target) (nat_lt 102400 w.fresh) q.0 in
+    let p = or_false (nat_lt WINDOW_BYTES w.target || nat_lt WINDOW_BYTES w.fresh || nat_lt WINDOW_BYTES w.source) (nat_lt w.room w.target) limits in
+    let q = or_false (nat_lt WINDOW_BYTES w.target || nat_lt WINDOW_BYTES w.fresh) (nat_lt WINDOW_BYTES w.source) p.0 in
+    let r = or_false (nat_lt WINDOW_BYTES w.target) (nat_lt WINDOW_BYTES w.fresh) q.0 in
     let none : Ready w.source [] is 0 0 = subst (λ x. Ready w.source [] x 0 0) (sym i) ready.None in
     let end = j ∙ ap (λ x. front ++ x) (sym (append-nil numbers)) in
     let size : w.instructions ≡ length {A = ℕ} [] + w.instructions = omega arith in
@@ -271,9 +272,9 @@ judged_fine base w is new text bytes front numbers whole are i e j =
       last_ceiling = w.ceiling;
       whole = whole;
       are = all;
-      short = le_from 102400 w.target r.0;
-      short_new = le_from 102400 w.fresh r.1;
-      short_view = le_from 102400 w.source q.1;
+      short = le_from WINDOW_BYTES w.target r.0;
+      short_new = le_from WINDOW_BYTES w.fresh r.1;
+      short_view = le_from WINDOW_BYTES w.source q.1;
       fits = le_from w.room w.target p.1;
       inside = inl (eq_from w.source 0 z);
       slides = inl (eq_from w.source 0 z);
@@ -289,9 +290,9 @@ judged_fine base w is new text bytes front numbers whole are i e j =
       last_ceiling = w.ceiling;
       whole = whole;
       are = all;
-      short = le_from 102400 w.target r.0;
-      short_new = le_from 102400 w.fresh r.1;
-      short_view = le_from 102400 w.source q.1;
+      short = le_from WINDOW_BYTES w.target r.0;
+      short_new = le_from WINDOW_BYTES w.fresh r.1;
+      short_view = le_from WINDOW_BYTES w.source q.1;
       fits = le_from w.room w.target p.1;
       inside = inr f.0;
       slides = inr f.1;
@@ -376,7 +377,7 @@ view_long : (base : List ℕ) (offset n : ℕ) → (n ≡ 0) ⊎ (offset + n ≤
 view_long base offset n (inl z) = omega (arith, length-take n (drop offset base), z)
 view_long base offset n (inr h) = omega (arith, length-take n (drop offset base), length-drop offset base, h)
 
-whole_window : (base instructions new numbers made : List ℕ) (offset source target : ℕ) → DeltaNumbers offset source target (length instructions) (length new) numbers → Makes (view_of base offset source) instructions new made → length made ≡ target → (source ≡ 0) ⊎ (offset + source ≤ length base) → target ≤ 102400 → source ≤ 102400 → length new ≤ 102400 → IsDeltaWindow base offset source (numbers ++ (instructions ++ new)) made
+whole_window : (base instructions new numbers made : List ℕ) (offset source target : ℕ) → DeltaNumbers offset source target (length instructions) (length new) numbers → Makes (view_of base offset source) instructions new made → length made ≡ target → (source ≡ 0) ⊎ (offset + source ≤ length base) → target ≤ WINDOW_BYTES → source ≤ WINDOW_BYTES → length new ≤ WINDOW_BYTES → IsDeltaWindow base offset source (numbers ++ (instructions ++ new)) made
 whole_window base instructions new numbers made offset source target (a4, d5, (a3, d4, (a2, d3, (a1, d2, s1, s2, e2), s3, e3), s4, e4), s5, e5) makes l inside short short_view short_new =
     let tail = instructions ++ new in
     record {

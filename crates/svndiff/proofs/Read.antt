@@ -14,6 +14,7 @@ use Rattle.svndiff.specs.declared.reading.Place.TheVariants as at
 use Rattle.svndiff.specs.declared.reading.Reading.{Reading}
 use Rattle.svndiff.specs.Reading.{Next, begin, is_between, digit, filled, head_digit, length_digit, more_data, instructed, judged, summed, within, instruction, one_less, given}
 use Rattle.svndiff.specs.Streams.{Stream, Reads, Refuses, of_step, reading, pieces_in}
+use Rattle.svndiff.specs.declared.limits.TheConstants.{TEXT_BYTES, WINDOW_BYTES}
 use Rattle.svndiff.proofs.Runs.{lt_true, lt_false, both, state, data_run, data_pieces, no_pieces}
 
 pub negated : (a : Bool) → not a ≡ true → a ≡ false
@@ -123,11 +124,11 @@ new_some : (first : List ℕ) (n : ℕ) → IsNew first n → 0 < length first
 new_some first n (some, inl (small, e)) = omega (arith, ap length e)
 new_some first n (some, inr (digits, s, e)) = omega (arith, ap length e)
 
-more_within : (m n : ℕ) → m + n ≤ 102400 → more_data m n ≡ m + n
-more_within m n h = rw (lt_false 102400 m (omega (arith, h)), lt_false 102400 n (omega (arith, h))) refl
+more_within : (m n : ℕ) → m + n ≤ WINDOW_BYTES → more_data m n ≡ m + n
+more_within m n h = rw (lt_false WINDOW_BYTES m (omega (arith, h)), lt_false WINDOW_BYTES n (omega (arith, h))) refl
 
 -- instructions in front of others
-news_read : (text bytes : List ℕ) (m : ℕ) (r : Reading) (more : List ℕ) → AreNew bytes m → r.sum ≡ 0 → m ≤ 102400 → length bytes < r.instructions → reading (Reads text (placed at.Instruction r)) (bytes ++ more) ≡ reading (Reads text (placed at.Instruction (record r { instructions = r.instructions - length bytes; sum = m }))) more
+news_read : (text bytes : List ℕ) (m : ℕ) (r : Reading) (more : List ℕ) → AreNew bytes m → r.sum ≡ 0 → m ≤ WINDOW_BYTES → length bytes < r.instructions → reading (Reads text (placed at.Instruction r)) (bytes ++ more) ≡ reading (Reads text (placed at.Instruction (record r { instructions = r.instructions - length bytes; sum = m }))) more
 news_read text [] zero r more None z h l =
     let i : r.instructions ≡ r.instructions - length {A = ℕ} [] = omega arith in
     ap (λ s. reading (Reads text (record r { place = at.Instruction; sum = s })) more) z
@@ -155,15 +156,15 @@ Behind s text room more = (next : Reading) × (next.place ≡ at.Between) × (ne
 pub same_number : (a : ℕ) → (a == a) ≡ true
 same_number a = grind (arith, nat_tests)
 
-judged_fits : (p : Place) (n size sum room : ℕ) (t : Bool) → (size == 0) ≡ t → n ≤ 102400 → n ≤ room → judged (state p 0 n size n sum room) ≡ (if t then summed (state p 0 n size n 0 room) else Next (state at.Instruction 0 n size n 0 room))
-judged_fits p n size sum room t e h k = rw (lt_false 102400 n h, lt_false room n k, e) refl
+judged_fits : (p : Place) (n size sum room : ℕ) (t : Bool) → (size == 0) ≡ t → n ≤ WINDOW_BYTES → n ≤ room → judged (state p 0 n size n sum room) ≡ (if t then summed (state p 0 n size n 0 room) else Next (state at.Instruction 0 n size n 0 room))
+judged_fits p n size sum room t e h k = rw (lt_false WINDOW_BYTES n h, lt_false room n k, e) refl
 
 -- a reader in front of so much new data, and room for so much of the text
 abbrev pub IsReady : Reading → ℕ → ℕ → Type 0
 IsReady ready n room = (ready.place ≡ at.NewData) × (ready.fresh ≡ n) × (ready.room ≡ room)
 
 -- the instructions of a window that has new data
-before_data : (text instructions more : List ℕ) (n sum room : ℕ) (p : Place) → AreNew instructions n → 0 < n → n ≤ 102400 → n ≤ room → (ready : Reading) × IsReady ready n room × (reading (of_step text (judged (state p 0 n (length instructions) n sum room))) (instructions ++ more) ≡ reading (Reads text ready) more)
+before_data : (text instructions more : List ℕ) (n sum room : ℕ) (p : Place) → AreNew instructions n → 0 < n → n ≤ WINDOW_BYTES → n ≤ room → (ready : Reading) × IsReady ready n room × (reading (of_step text (judged (state p 0 n (length instructions) n sum room))) (instructions ++ more) ≡ reading (Reads text ready) more)
 before_data text [] more zero sum room p None some h k = absurd (omega (arith, some))
 before_data text both_bytes more both_sums sum room p (More bytes first m n before one) any h k =
     let size = length (bytes ++ first) in
@@ -191,7 +192,7 @@ before_data text both_bytes more both_sums sum room p (More bytes first m n befo
     )
 
 -- the instructions and the new data of a window
-behind_head : (text instructions new more : List ℕ) (n sum room : ℕ) (p : Place) → AreNew instructions n → length new ≡ n → n ≤ 102400 → n ≤ room → Behind (reading (of_step text (judged (state p 0 n (length instructions) n sum room))) (instructions ++ (new ++ more))) (text ++ new) (room - n) more
+behind_head : (text instructions new more : List ℕ) (n sum room : ℕ) (p : Place) → AreNew instructions n → length new ≡ n → n ≤ WINDOW_BYTES → n ≤ room → Behind (reading (of_step text (judged (state p 0 n (length instructions) n sum room))) (instructions ++ (new ++ more))) (text ++ new) (room - n) more
 behind_head text [] new more zero sum room p None e h k =
     let none : new ≡ [] = nil_from_length new e in
     let judgement : judged (state p 0 0 0 0 sum room) ≡ Next (state at.Between 0 0 0 0 0 room) = judged_fits p 0 0 sum room true refl h k in
@@ -263,7 +264,7 @@ windows_read text both_bytes both_texts more r e (Then bytes all first new befor
 
 pub texts_are_read : (bytes text : List ℕ) → IsText bytes text → IsRead bytes text
 texts_are_read bytes text t =
-    let start : Reading = state at.Between 0 0 0 0 0 1048576 in
+    let start : Reading = state at.Between 0 0 0 0 0 TEXT_BYTES in
     let run = windows_read [] t.windows text [] start refl t.are t.fits in
     let magic : reading (Reads [] begin) bytes ≡ reading (Reads [] start) (t.windows ++ []) = ap (reading (Reads [] begin)) t.joined ∙ ap (reading (Reads [] start)) (sym (append-nil t.windows)) in
     (run.0, rw (run.1, is_between) refl, magic ∙ run.3)

@@ -5,6 +5,7 @@ use Rattle.std.specs.Bool.{if◌then◌else◌}
 use Rattle.svndiff.specs.Groups.{is_last, group, Spells}
 use Rattle.svndiff.specs.Grammar.{IsNew, AreNew, None, More, IsWindow, AreWindows, Empty, Then, IsText}
 use Rattle.svndiff.specs.Spelling.{groups, new_data, window, windows, windows_within, spelled}
+use Rattle.svndiff.specs.declared.limits.TheConstants.{TEXT_BYTES}
 use Rattle.svndiff.proofs.Runs.{lt_true, lt_false, lt_from}
 
 -- the seven bits of a byte with its high bit set, and of one without
@@ -114,5 +115,5 @@ windows_are (suc k) (b ∷ text) h =
     let p = piece_sizes 65536 (b ∷ text) (omega arith) (omega arith) in
     one_more k (b ∷ text) (take 65536 (b ∷ text)) (drop 65536 (b ∷ text)) (take-append-drop 65536 (b ∷ text)) p.0 p.1 (windows_are k (drop 65536 (b ∷ text)) (below (length (drop 65536 (b ∷ text))) (length (b ∷ text)) k p.2 h))
 
-pub written_is_text : (text : List ℕ) → length text ≤ 1048576 → IsText (spelled text) text
+pub written_is_text : (text : List ℕ) → length text ≤ TEXT_BYTES → IsText (spelled text) text
 written_is_text text h = record { windows = windows text; are = windows_are (length text) text (omega arith); fits = h; joined = refl }

@@ -17,6 +17,7 @@ use Rattle.svndiff.specs.declared.fault.WindowFault.TheVariants.{BadWindow, Copy
 use Rattle.svndiff.specs.Reading.{Step, Next, Gives, Refused, begin, is_between, in_magic, digit, filled, head_digit, length_digit, more_data, instructed, judged, summed, instruction, one_less, one_step}
 use Rattle.svndiff.specs.Streams.{Stream, Reads, Refuses, of_step, one_byte, reading, stream_of}
 use Rattle.svndiff.specs.Refusals.{Whole_windows, Offset, AndSource, AndTarget, AndSize, Numbers, IsPast, IsOverfull, HasSource, Copies, IsDue, RefusedForCause, RefusedIsNoFront}
+use Rattle.svndiff.specs.declared.limits.TheConstants.{TEXT_BYTES, WINDOW_BYTES}
 use Rattle.svndiff.proofs.Read.{texts_are_read}
 use Rattle.svndiff.proofs.Runs.{lt_from, both, state, reading-append, reading-refused}
 
@@ -41,23 +42,23 @@ InFront field.NewLength source target size bytes = AndSize source target size by
 
 -- instructions for so much new data, which is counted up to the limit
 abbrev Made : List ℕ → ℕ → Type 0
-Made made sum = (total : ℕ) × AreNew made total × (sum ≤ 102400 → sum ≡ total)
+Made made sum = (total : ℕ) × AreNew made total × (sum ≤ WINDOW_BYTES → sum ≡ total)
 
-made_are : (made : List ℕ) (sum : ℕ) → Made made sum → sum ≤ 102400 → AreNew made sum
+made_are : (made : List ℕ) (sum : ℕ) → Made made sum → sum ≤ WINDOW_BYTES → AreNew made sum
 made_are made sum m h = subst (AreNew made) (sym (m.2 h)) m.1
 
 -- what is behind so many bytes, at each place
 abbrev Part : Place → ℕ → ℕ → ℕ → ℕ → ℕ → ℕ → List ℕ → List ℕ → Type 0
-Part (at.Magic k) source target left fresh sum room text bytes = (k ≤ 3) × (text ≡ []) × (room ≡ 1048576) × (bytes ≡ take k (83 ∷ 86 ∷ 78 ∷ 0 ∷ []))
+Part (at.Magic k) source target left fresh sum room text bytes = (k ≤ 3) × (text ≡ []) × (room ≡ TEXT_BYTES) × (bytes ≡ take k (83 ∷ 86 ∷ 78 ∷ 0 ∷ []))
 Part at.Between source target left fresh sum room text bytes = Whole_windows bytes text room
 Part (at.Head f count n) source target left fresh sum room text bytes =
     (front numbers digits : List ℕ) × Whole_windows front text room × InFront f source target left numbers × Begun digits count n × (bytes ≡ front ++ (numbers ++ digits))
 Part at.Instruction source target left fresh sum room text bytes =
-    (front numbers made : List ℕ) × Whole_windows front text room × Numbers 0 target (length made + left) fresh numbers × Made made sum × (fresh ≤ 102400) × (fresh ≤ room) × (0 < left) × (bytes ≡ front ++ (numbers ++ made))
+    (front numbers made : List ℕ) × Whole_windows front text room × Numbers 0 target (length made + left) fresh numbers × Made made sum × (fresh ≤ WINDOW_BYTES) × (fresh ≤ room) × (0 < left) × (bytes ≡ front ++ (numbers ++ made))
 Part (at.Length count n) source target left fresh sum room text bytes =
-    (front numbers made digits : List ℕ) × Whole_windows front text room × Numbers 0 target (length made + (1 + length digits) + left) fresh numbers × Made made sum × (fresh ≤ 102400) × (fresh ≤ room) × (0 < left) × Begun digits count n × (bytes ≡ front ++ (numbers ++ (made ++ 128 ∷ digits)))
+    (front numbers made digits : List ℕ) × Whole_windows front text room × Numbers 0 target (length made + (1 + length digits) + left) fresh numbers × Made made sum × (fresh ≤ WINDOW_BYTES) × (fresh ≤ room) × (0 < left) × Begun digits count n × (bytes ≡ front ++ (numbers ++ (made ++ 128 ∷ digits)))
 Part at.NewData source target left fresh sum room text bytes =
-    (front numbers made before new : List ℕ) × Whole_windows front before (room + length new) × Numbers 0 (length new + fresh) (length made) (length new + fresh) numbers × AreNew made (length new + fresh) × (length new + fresh ≤ 102400) × (fresh ≤ room) × (0 < fresh) × (text ≡ before ++ new) × (bytes ≡ front ++ (numbers ++ (made ++ new)))
+    (front numbers made before new : List ℕ) × Whole_windows front before (room + length new) × Numbers 0 (length new + fresh) (length made) (length new + fresh) numbers × AreNew made (length new + fresh) × (length new + fresh ≤ WINDOW_BYTES) × (fresh ≤ room) × (0 < fresh) × (text ≡ before ++ new) × (bytes ≡ front ++ (numbers ++ (made ++ new)))
 Part at.Failed source target left fresh sum room text bytes = ⊥
 
 abbrev Stands : Reading → List ℕ → List ℕ → Type 0
@@ -151,7 +152,7 @@ magic_fine (suc (suc (suc zero))) source target left fresh sum room text bytes b
 magic_fine (suc (suc (suc (suc k)))) source target left fresh sum room text bytes b (h, t, r, e) = absurd (omega (arith, h))
 
 -- a window is whole
-window_done : (front numbers made before new text bytes : List ℕ) (n room_before room : ℕ) → Whole_windows front before room_before → Numbers 0 n (length made) n numbers → AreNew made n → n ≡ length new → n ≤ 102400 → text ≡ before ++ new → bytes ≡ front ++ (numbers ++ (made ++ new)) → length text + room ≡ 1048576 → Whole_windows bytes text room
+window_done : (front numbers made before new text bytes : List ℕ) (n room_before room : ℕ) → Whole_windows front before room_before → Numbers 0 n (length made) n numbers → AreNew made n → n ≡ length new → n ≤ WINDOW_BYTES → text ≡ before ++ new → bytes ≡ front ++ (numbers ++ (made ++ new)) → length text + room ≡ TEXT_BYTES → Whole_windows bytes text room
 window_done front numbers made before new text bytes n room_before room w (a4, d5, (a3, d4, (a2, d3, (a1, d2, o, s2, e2), s3, e3), s4, e4), s5, e5) are z short t e r =
     let first = a1 ++ (d2 ++ (d3 ++ (d4 ++ (d5 ++ (made ++ new))))) in
     let window : IsWindow first new = record {
@@ -189,7 +190,7 @@ window_done front numbers made before new text bytes n room_before room w (a4, d
     }
 
 -- the instructions are over
-summed_at : (p : Place) (source target fresh sum room : ℕ) (text bytes front numbers made : List ℕ) (s t : Bool) → (sum == target && sum == fresh) ≡ s → (fresh == 0) ≡ t → Whole_windows front text room → Numbers 0 target (length made) fresh numbers → Made made sum → fresh ≤ 102400 → fresh ≤ room → bytes ≡ front ++ (numbers ++ made) → Fine text bytes (if s then Next (state (if t then at.Between else at.NewData) source target 0 fresh sum room) else Refused BadWindow)
+summed_at : (p : Place) (source target fresh sum room : ℕ) (text bytes front numbers made : List ℕ) (s t : Bool) → (sum == target && sum == fresh) ≡ s → (fresh == 0) ≡ t → Whole_windows front text room → Numbers 0 target (length made) fresh numbers → Made made sum → fresh ≤ WINDOW_BYTES → fresh ≤ room → bytes ≡ front ++ (numbers ++ made) → Fine text bytes (if s then Next (state (if t then at.Between else at.NewData) source target 0 fresh sum room) else Refused BadWindow)
 summed_at p source target fresh sum room text bytes front numbers made false t e z w n are short fits j = tt
 summed_at p source target fresh sum room text bytes front numbers made true true e z w n are short fits j =
     let q = both (sum == target) (sum == fresh) e in
@@ -222,21 +223,21 @@ summed_at p source target fresh sum room text bytes front numbers made true fals
       j ∙ ap (λ x. front ++ (numbers ++ x)) (sym (append-nil made)),
     )
 
-summed_fine : (p : Place) (source target left fresh sum room : ℕ) (text bytes front numbers made : List ℕ) → left ≡ 0 → Whole_windows front text room → Numbers 0 target (length made + left) fresh numbers → Made made sum → fresh ≤ 102400 → fresh ≤ room → bytes ≡ front ++ (numbers ++ made) → Fine text bytes (summed (state p source target left fresh sum room))
+summed_fine : (p : Place) (source target left fresh sum room : ℕ) (text bytes front numbers made : List ℕ) → left ≡ 0 → Whole_windows front text room → Numbers 0 target (length made + left) fresh numbers → Made made sum → fresh ≤ WINDOW_BYTES → fresh ≤ room → bytes ≡ front ++ (numbers ++ made) → Fine text bytes (summed (state p source target left fresh sum room))
 summed_fine p source target left fresh sum room text bytes front numbers made z w n are short fits j =
     let size : length made + left ≡ length made = omega (arith, z) in
     subst (λ l. Fine text bytes (summed (state p source target l fresh sum room))) (sym z) (summed_at p source target fresh sum room text bytes front numbers made (sum == target && sum == fresh) (fresh == 0) refl refl w (subst (λ x. Numbers 0 target x fresh numbers) size n) are short fits j)
 
 -- an instruction is whole
-more_at : (made first : List ℕ) (sum n : ℕ) (s : Bool) → (nat_lt 102400 sum || nat_lt 102400 n) ≡ s → Made made sum → IsNew first n → Made (made ++ first) (if s then 102401 else sum + n)
+more_at : (made first : List ℕ) (sum n : ℕ) (s : Bool) → (nat_lt WINDOW_BYTES sum || nat_lt WINDOW_BYTES n) ≡ s → Made made sum → IsNew first n → Made (made ++ first) (if s then WINDOW_BYTES + 1 else sum + n)
 more_at made first sum n true e are one = (are.0 + n, More made first are.0 n are.1 one, λ h. absurd (omega (arith, h)))
 more_at made first sum n false e are one = (are.0 + n, More made first are.0 n are.1 one, λ h. omega (arith, h, are.2 (omega (arith, h))))
 
-instructed_fine : (p : Place) (source target left fresh sum room n : ℕ) (text bytes front numbers made first : List ℕ) → Whole_windows front text room → Numbers 0 target (length (made ++ first) + left) fresh numbers → Made made sum → (0 < n → IsNew first n) → fresh ≤ 102400 → fresh ≤ room → bytes ≡ front ++ (numbers ++ (made ++ first)) → Fine text bytes (instructed (state p source target left fresh sum room) n)
+instructed_fine : (p : Place) (source target left fresh sum room n : ℕ) (text bytes front numbers made first : List ℕ) → Whole_windows front text room → Numbers 0 target (length (made ++ first) + left) fresh numbers → Made made sum → (0 < n → IsNew first n) → fresh ≤ WINDOW_BYTES → fresh ≤ room → bytes ≡ front ++ (numbers ++ (made ++ first)) → Fine text bytes (instructed (state p source target left fresh sum room) n)
 instructed_fine p source target left fresh sum room n text bytes front numbers made first w m are one short fits j =
     if_fine text bytes (n == 0) _ _ (λ _. tt) (λ some.
     let new : IsNew first n = one (positive n some) in
-    let all : Made (made ++ first) (more_data sum n) = more_at made first sum n (nat_lt 102400 sum || nat_lt 102400 n) refl are new in
+    let all : Made (made ++ first) (more_data sum n) = more_at made first sum n (nat_lt WINDOW_BYTES sum || nat_lt WINDOW_BYTES n) refl are new in
     if_fine text bytes (left == 0) _ _
     (λ z. summed_fine p source target left fresh (more_data sum n) room text bytes front numbers (made ++ first) (eq_from left 0 z) w m all short fits j)
     (λ l. (front, numbers, made ++ first, w, m, all, short, fits, positive left l, j)))
@@ -295,17 +296,17 @@ pub or_false : (a b : Bool) → (a || b) ≡ false → (a ≡ false) × (b ≡ f
 or_false true b e = cc
 or_false false b e = (refl, e)
 
-past_one : (target fresh room : ℕ) → (nat_lt 102400 target || nat_lt 102400 fresh || nat_lt room fresh) ≡ true → IsPast target fresh room
+past_one : (target fresh room : ℕ) → (nat_lt WINDOW_BYTES target || nat_lt WINDOW_BYTES fresh || nat_lt room fresh) ≡ true → IsPast target fresh room
 past_one target fresh room e = grind (arith, nat_tests)
 
 judged_fine : (p : Place) (source target left fresh sum room : ℕ) (text bytes front numbers : List ℕ) → Whole_windows front text room → Numbers source target left fresh numbers → bytes ≡ front ++ numbers → Fine text bytes (judged (state p source target left fresh sum room))
 judged_fine p source target left fresh sum room text bytes front numbers w m j =
-    if_fine text bytes (nat_lt 102400 target || nat_lt 102400 fresh || nat_lt room fresh) _ _ (λ past. (front, numbers, room, source, target, left, fresh, w, m, past_one target fresh room past, j)) (λ limits.
-    let q = or_false (nat_lt 102400 target || nat_lt 102400 fresh) (nat_lt room fresh) limits in
-    let r = or_false (nat_lt 102400 target) (nat_lt 102400 fresh) q.0 in
-    let short : fresh ≤ 102400 = le_from 102400 fresh r.1 in
+    if_fine text bytes (nat_lt WINDOW_BYTES target || nat_lt WINDOW_BYTES fresh || nat_lt room fresh) _ _ (λ past. (front, numbers, room, source, target, left, fresh, w, m, past_one target fresh room past, j)) (λ limits.
+    let q = or_false (nat_lt WINDOW_BYTES target || nat_lt WINDOW_BYTES fresh) (nat_lt room fresh) limits in
+    let r = or_false (nat_lt WINDOW_BYTES target) (nat_lt WINDOW_BYTES fresh) q.0 in
+    let short : fresh ≤ WINDOW_BYTES = le_from WINDOW_BYTES fresh r.1 in
     let fits : fresh ≤ room = le_from room fresh q.1 in
-    if_fine text bytes (nat_lt 0 source) _ _ (λ some. inl (front, numbers, room, source, target, left, fresh, w, m, le_from 102400 target r.0, short, fits, lt_from 0 source some, j)) (λ no.
+    if_fine text bytes (nat_lt 0 source) _ _ (λ some. inl (front, numbers, room, source, target, left, fresh, w, m, le_from WINDOW_BYTES target r.0, short, fits, lt_from 0 source some, j)) (λ no.
     let zero_source : source ≡ 0 = omega (arith, le_from 0 source no) in
     let size : left ≡ length {A = ℕ} [] + left = omega arith in
     let m0 = subst (λ x. Numbers 0 target x fresh numbers) size (subst (λ x. Numbers x target left fresh numbers) zero_source m) in

@@ -3,6 +3,7 @@ use Rattle.std.specs.Prelude.{◌≡◌, ◌⊎◌, ℕ, ◌+◌, ◌==◌, ◌<
 use Rattle.svndiff.specs.Groups.{Spells}
 use Rattle.svndiff.specs.declared.instructions.Kind.{Kind}
 use Rattle.svndiff.specs.declared.instructions.Kind.TheVariants as kind
+use Rattle.svndiff.specs.declared.limits.TheConstants.{TEXT_BYTES, WINDOW_BYTES}
 
 -- the top two bits of an instruction say from where it takes bytes
 abbrev pub top : Kind → ℕ
@@ -48,9 +49,9 @@ pub record IsDeltaWindow (base : List ℕ) (at n : ℕ) (bytes made : List ℕ) 
   pub is_news : Spells news (length new)
   pub within : (n ≡ 0) ⊎ (at + n ≤ length base)
   pub make : Makes (view_of base at n) instructions new made
-  pub short : length made ≤ 102400
-  pub short_view : n ≤ 102400
-  pub short_new : length new ≤ 102400
+  pub short : length made ≤ WINDOW_BYTES
+  pub short_view : n ≤ WINDOW_BYTES
+  pub short_new : length new ≤ WINDOW_BYTES
   pub joined : bytes ≡ offset ++ (source ++ (target ++ (size ++ (news ++ (instructions ++ new)))))
 
 -- neither end of a view that has a byte stands before that of the last one
@@ -72,5 +73,5 @@ pub record IsDelta (bytes base text : List ℕ) : Type 0 where
   pub floor : ℕ
   pub ceiling : ℕ
   pub are : AreDeltas base floor ceiling windows text
-  pub fits : length text ≤ 1048576
+  pub fits : length text ≤ TEXT_BYTES
   pub joined : bytes ≡ 83 ∷ 86 ∷ 78 ∷ 0 ∷ windows

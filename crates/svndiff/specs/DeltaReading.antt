@@ -13,6 +13,7 @@ use Rattle.svndiff.specs.declared.window.Awaited.{Awaited}
 use Rattle.svndiff.specs.declared.window.Awaited.TheVariants as at
 use Rattle.svndiff.specs.declared.window.Window.{Window}
 use Rattle.svndiff.specs.Reading.{magic, digit}
+use Rattle.svndiff.specs.declared.limits.TheConstants.{TEXT_BYTES, WINDOW_BYTES}
 
 -- what is awaited changes, and perhaps an instruction is whole; or the byte is refused
 pub data Step : Type 0 where
@@ -21,7 +22,7 @@ pub data Step : Type 0 where
 
 -- before the first byte
 abbrev pub begin : Window
-begin = record { place = at.Magic 0; offset = 0; source = 0; target = 0; instructions = 0; fresh = 0; sum = 0; news = 0; room = 1048576; floor = 0; ceiling = 0 }
+begin = record { place = at.Magic 0; offset = 0; source = 0; target = 0; instructions = 0; fresh = 0; sum = 0; news = 0; room = TEXT_BYTES; floor = 0; ceiling = 0 }
 
 abbrev pub spent : Window
 spent = record begin { place = at.Failed }
@@ -66,7 +67,7 @@ cleared w = record w { sum = 0; news = 0 }
 -- the numbers in front of a window are there
 abbrev pub judged : ℕ → Window → Step
 judged length w =
-    if nat_lt 102400 w.target || nat_lt 102400 w.fresh || nat_lt 102400 w.source || nat_lt w.room w.target then Refused TooLong
+    if nat_lt WINDOW_BYTES w.target || nat_lt WINDOW_BYTES w.fresh || nat_lt WINDOW_BYTES w.source || nat_lt w.room w.target then Refused TooLong
     else if w.source == 0 then go_on None (cleared w)
     else if misfits length w then Refused BadWindow
     else go_on None (slid (cleared w))

@@ -5,12 +5,13 @@ use Rattle.svndiff.specs.DeltaGrammar.{AreDeltas, IsDelta}
 use Rattle.svndiff.specs.DeltaStreams.{Refuses, stream_of}
 use Rattle.svndiff.specs.declared.delta_fault.DeltaFault.{DeltaFault}
 use Rattle.svndiff.specs.declared.delta_fault.DeltaFault.TheVariants.{BadWindow, TooLong, Failed, OutOfMemory}
+use Rattle.svndiff.specs.declared.limits.TheConstants.{TEXT_BYTES, WINDOW_BYTES}
 
 -- the version, and whole windows of a text that may have so many bytes more
 pub record WholeDeltas (base bytes text : List ℕ) (floor ceiling room : ℕ) : Type 0 where
   pub windows : List ℕ
   pub are : AreDeltas base floor ceiling windows text
-  pub room_is : length text + room ≡ 1048576
+  pub room_is : length text + room ≡ TEXT_BYTES
   pub joined : bytes ≡ 83 ∷ 86 ∷ 78 ∷ 0 ∷ windows
 
 -- the numbers in front of a window, one behind the other
@@ -28,7 +29,7 @@ DeltaNumbers offset source target size fresh bytes = (front digits : List ℕ) �
 
 -- a window makes, brings or sees more than it may, or makes more than the text may still have
 abbrev pub IsPast : ℕ → ℕ → ℕ → ℕ → Type 0
-IsPast target fresh source room = (102400 < target) ⊎ ((102400 < fresh) ⊎ ((102400 < source) ⊎ (room < target)))
+IsPast target fresh source room = (WINDOW_BYTES < target) ⊎ ((WINDOW_BYTES < fresh) ⊎ ((WINDOW_BYTES < source) ⊎ (room < target)))
 
 -- a window's numbers are past a limit
 pub record IsOverfull (base text bytes : List ℕ) : Type 0 where

@@ -1,6 +1,7 @@
 -- What bytes are a text in windows of new data alone, by cases, apart from any order of reading.
 use Rattle.std.specs.Prelude.{◌≡◌, ◌⊎◌, ℕ, ◌+◌, ◌<◌, ◌≤◌, List, [], ◌∷◌, ◌++◌, length}
 use Rattle.svndiff.specs.Groups.{Spells}
+use Rattle.svndiff.specs.declared.limits.TheConstants.{TEXT_BYTES, WINDOW_BYTES}
 
 -- an instruction for so much new data: its length in the low six bits, or in a number behind it
 abbrev pub IsNew : List ℕ → ℕ → Type 0
@@ -26,7 +27,7 @@ pub record IsWindow (bytes new : List ℕ) : Type 0 where
   pub is_size : Spells size (length instructions)
   pub is_news : Spells news (length new)
   pub make : AreNew instructions (length new)
-  pub short : length new ≤ 102400
+  pub short : length new ≤ WINDOW_BYTES
   pub joined : bytes ≡ offset ++ (source ++ (target ++ (size ++ (news ++ (instructions ++ new)))))
 
 -- windows, one after another, and their new data joined
@@ -38,5 +39,5 @@ pub data AreWindows : List ℕ → List ℕ → Type 0 where
 pub record IsText (bytes text : List ℕ) : Type 0 where
   pub windows : List ℕ
   pub are : AreWindows windows text
-  pub fits : length text ≤ 1048576
+  pub fits : length text ≤ TEXT_BYTES
   pub joined : bytes ≡ 83 ∷ 86 ∷ 78 ∷ 0 ∷ windows

@@ -5,6 +5,7 @@ use Rattle.svndiff.specs.Grammar.{IsText}
 use Rattle.svndiff.specs.Reading.{is_between}
 use Rattle.svndiff.specs.Spelling.{spelled}
 use Rattle.svndiff.specs.Streams.{Stream, Reads, reading, stream_of}
+use Rattle.svndiff.specs.declared.limits.TheConstants.{TEXT_BYTES}
 
 -- it doesn't matter how bytes are cut into pieces
 abbrev pub PiecesJoin : Type 0
@@ -24,11 +25,11 @@ OneText = (bytes one other : List ℕ) → IsText bytes one → IsText bytes oth
 
 -- what is written is in the grammar
 abbrev pub WrittenIsText : Type 0
-WrittenIsText = (text : List ℕ) → length text ≤ 1048576 → IsText (spelled text) text
+WrittenIsText = (text : List ℕ) → length text ≤ TEXT_BYTES → IsText (spelled text) text
 
 -- what is written is read again
 abbrev pub WrittenIsRead : Type 0
-WrittenIsRead = (text : List ℕ) → length text ≤ 1048576 → IsRead (spelled text) text
+WrittenIsRead = (text : List ℕ) → length text ≤ TEXT_BYTES → IsRead (spelled text) text
 
 -- what is read is in the grammar
 abbrev pub ReadIsText : Type 0

@@ -10,6 +10,7 @@ use Rattle.svndiff.specs.declared.reading.Field.TheVariants as field
 use Rattle.svndiff.specs.declared.reading.Place.{Place}
 use Rattle.svndiff.specs.declared.reading.Place.TheVariants as at
 use Rattle.svndiff.specs.declared.reading.Reading.{Reading}
+use Rattle.svndiff.specs.declared.limits.TheConstants.{TEXT_BYTES, WINDOW_BYTES}
 
 -- what is awaited changes, or the byte is one of the text's, or it is refused
 pub data Step : Type 0 where
@@ -19,7 +20,7 @@ pub data Step : Type 0 where
 
 -- before the first byte
 abbrev pub begin : Reading
-begin = record { place = at.Magic 0; source = 0; target = 0; instructions = 0; fresh = 0; sum = 0; room = 1048576 }
+begin = record { place = at.Magic 0; source = 0; target = 0; instructions = 0; fresh = 0; sum = 0; room = TEXT_BYTES }
 
 abbrev pub spent : Reading
 spent = record begin { place = at.Failed }
@@ -58,7 +59,7 @@ summed r =
 -- the numbers in front of a window are there
 abbrev pub judged : Reading → Step
 judged r =
-    if nat_lt 102400 r.target || nat_lt 102400 r.fresh || nat_lt r.room r.fresh then Refused TooLong
+    if nat_lt WINDOW_BYTES r.target || nat_lt WINDOW_BYTES r.fresh || nat_lt r.room r.fresh then Refused TooLong
     else if nat_lt 0 r.source then Refused CopyWindow
     else if r.instructions == 0 then summed (record r { sum = 0 })
     else Next (record r { place = at.Instruction; sum = 0 })
@@ -78,7 +79,7 @@ head_digit f r Wrong = Refused BadWindow
 
 -- more new data; what is past a window's limit stays past it
 abbrev pub more_data : ℕ → ℕ → ℕ
-more_data sum n = if nat_lt 102400 sum || nat_lt 102400 n then 102401 else sum + n
+more_data sum n = if nat_lt WINDOW_BYTES sum || nat_lt WINDOW_BYTES n then WINDOW_BYTES + 1 else sum + n
 
 -- an instruction is whole
 abbrev pub instructed : Reading → ℕ → Step

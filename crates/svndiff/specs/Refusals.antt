@@ -5,12 +5,13 @@ use Rattle.svndiff.specs.Grammar.{AreNew, AreWindows, IsText}
 use Rattle.svndiff.specs.Streams.{Refuses, stream_of}
 use Rattle.svndiff.specs.declared.fault.WindowFault.{WindowFault}
 use Rattle.svndiff.specs.declared.fault.WindowFault.TheVariants.{BadWindow, CopyWindow, TooLong, Failed}
+use Rattle.svndiff.specs.declared.limits.TheConstants.{TEXT_BYTES, WINDOW_BYTES}
 
 -- the version, and whole windows of a text that may have so many bytes more
 pub record Whole_windows (bytes text : List ℕ) (room : ℕ) : Type 0 where
   pub windows : List ℕ
   pub are : AreWindows windows text
-  pub room_is : length text + room ≡ 1048576
+  pub room_is : length text + room ≡ TEXT_BYTES
   pub joined : bytes ≡ 83 ∷ 86 ∷ 78 ∷ 0 ∷ windows
 
 -- the numbers in front of a window, one behind the other
@@ -31,7 +32,7 @@ Numbers source target size fresh bytes = (front digits : List ℕ) × AndSize so
 
 -- a window makes, or brings, more than it may, or more than the text may still have
 abbrev pub IsPast : ℕ → ℕ → ℕ → Type 0
-IsPast target fresh room = (102400 < target) ⊎ ((102400 < fresh) ⊎ (room < fresh))
+IsPast target fresh room = (WINDOW_BYTES < target) ⊎ ((WINDOW_BYTES < fresh) ⊎ (room < fresh))
 
 -- a window's numbers are past a limit
 abbrev pub IsOverfull : List ℕ → List ℕ → Type 0
@@ -39,11 +40,11 @@ IsOverfull text bytes = (front numbers : List ℕ) × (room source target size f
 
 -- they are within the limits, and it has a source
 abbrev pub HasSource : List ℕ → List ℕ → Type 0
-HasSource text bytes = (front numbers : List ℕ) × (room source target size fresh : ℕ) × Whole_windows front text room × Numbers source target size fresh numbers × (target ≤ 102400) × (fresh ≤ 102400) × (fresh ≤ room) × (0 < source) × (bytes ≡ front ++ numbers)
+HasSource text bytes = (front numbers : List ℕ) × (room source target size fresh : ℕ) × Whole_windows front text room × Numbers source target size fresh numbers × (target ≤ WINDOW_BYTES) × (fresh ≤ WINDOW_BYTES) × (fresh ≤ room) × (0 < source) × (bytes ≡ front ++ numbers)
 
 -- behind instructions for new data, one that isn't begins within those that were announced: its first byte says so
 abbrev pub Copies : List ℕ → List ℕ → Type 0
-Copies text bytes = (front numbers made : List ℕ) × (room target left fresh made_so_far b : ℕ) × Whole_windows front text room × Numbers 0 target (length made + left) fresh numbers × AreNew made made_so_far × (fresh ≤ 102400) × (fresh ≤ room) × (0 < left) × (b < 128) × (bytes ≡ front ++ (numbers ++ (made ++ b ∷ [])))
+Copies text bytes = (front numbers made : List ℕ) × (room target left fresh made_so_far b : ℕ) × Whole_windows front text room × Numbers 0 target (length made + left) fresh numbers × AreNew made made_so_far × (fresh ≤ WINDOW_BYTES) × (fresh ≤ room) × (0 < left) × (b < 128) × (bytes ≡ front ++ (numbers ++ (made ++ b ∷ [])))
 
 -- why bytes are refused at the last of them, behind this much of a text: 8, 45, 44 and no other
 abbrev pub IsDue : WindowFault → List ℕ → List ℕ → Type 0

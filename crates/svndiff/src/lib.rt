@@ -21,6 +21,7 @@ pub mod delta_reader;
 pub mod fault;
 mod instructions;
 pub mod law;
+pub mod limits;
 pub mod reader;
 mod reading;
 mod window;

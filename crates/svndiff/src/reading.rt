@@ -9,12 +9,7 @@ ghost use Rattle.svndiff.specs.Reading.{one_less, given, byte_step, one_step, St
 ghost use Rattle.svndiff.specs.declared.reading.Place.TheVariants as at;
 
 use crate::fault::WindowFault;
-
-// The most bytes that a window makes.
-const WINDOW: u64 = 102_400;
-
-// The most bytes of a text.
-const TEXT: u64 = 1_048_576;
+use crate::limits::{TEXT_BYTES, WINDOW_BYTES};
 
 // The bytes in front of the windows of version 0.
 const MAGIC: [u8; 4] = [b'S', b'V', b'N', 0];
@@ -107,8 +102,8 @@ pub fn take_digit(count: u8, n: u64, b: u8) -> Digit
 fn more_data(sum: u64, n: u64) -> u64
     ensures { result ≡ more_data sum n }
 {
-    if sum > WINDOW || n > WINDOW {
-        WINDOW + 1
+    if sum > WINDOW_BYTES || n > WINDOW_BYTES {
+        WINDOW_BYTES + 1
     } else {
         sum + n
     }
@@ -126,7 +121,7 @@ impl Reading {
             instructions: 0,
             fresh: 0,
             sum: 0,
-            room: TEXT,
+            room: TEXT_BYTES,
         }
     }
 
@@ -200,7 +195,7 @@ impl Reading {
     fn judged(&mut self) -> Result<(), WindowFault>
         ensures { StepIs result self.new (judged self.old) }
     {
-        if self.target > WINDOW || self.fresh > WINDOW || self.fresh > self.room {
+        if self.target > WINDOW_BYTES || self.fresh > WINDOW_BYTES || self.fresh > self.room {
             return Err(WindowFault::TooLong);
         }
         if self.source > 0 {

@@ -8,13 +8,8 @@ ghost use Rattle.svndiff.specs.DeltaReading.{one_step, kept, over, StepIs, is_wh
 
 use crate::delta_fault::DeltaFault;
 use crate::instructions::{Instruction, Kind};
+use crate::limits::{TEXT_BYTES, WINDOW_BYTES};
 use crate::reading::{Digit, Field, take_digit};
-
-// The most bytes that a window makes, brings or sees of the base.
-const WINDOW: u64 = 102_400;
-
-// The most bytes of a text.
-const TEXT: u64 = 1_048_576;
 
 /// What is awaited.
 #[derive(Clone, Copy)]
@@ -88,7 +83,7 @@ impl Window {
             fresh: 0,
             sum: 0,
             news: 0,
-            room: TEXT,
+            room: TEXT_BYTES,
             floor: 0,
             ceiling: 0,
         }
@@ -205,9 +200,9 @@ impl Window {
     fn judged(&mut self, length: u64) -> Result<Option<Instruction>, DeltaFault>
         ensures { StepIs result self.new (judged length self.old) }
     {
-        if self.target > WINDOW
-            || self.fresh > WINDOW
-            || self.source > WINDOW
+        if self.target > WINDOW_BYTES
+            || self.fresh > WINDOW_BYTES
+            || self.source > WINDOW_BYTES
             || self.target > self.room
         {
             return Err(DeltaFault::TooLong);

@@ -1,6 +1,7 @@
 -- How far a job is from its end, as a number that falls with each answer.
 use Rattle.std.specs.Prelude.{◌≢◌, ℕ, ◌+◌, ◌-◌, ◌*◌, ◌<◌, ◌≤◌}
 use Rattle.std.specs.Option.{option_map_or}
+use Rattle.node_base.specs.declared.limits.TheConstants.{REVISION}
 use Rattle.sync_core.specs.declared.answer.Answer.{Answer}
 use Rattle.sync_core.specs.declared.answer.Answer.TheVariants as answer
 use Rattle.sync_core.specs.declared.state.JobState.{JobState}
@@ -66,7 +67,7 @@ left (state.Copy s) = copy_left s.phase s.high
 
 -- a newest revision is one that can be
 abbrev pub CanBe : Answer → Type 0
-CanBe (answer.Latest n) = n ≤ 65535
+CanBe (answer.Latest n) = n ≤ REVISION
 CanBe _ = Unit {0}
 
 -- each answer to what a job does, unless that is nothing, brings it nearer to its end

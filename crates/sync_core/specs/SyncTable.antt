@@ -1,6 +1,7 @@
 -- A sync job's phases: what it does in each, and where each answer leads.
 use Rattle.std.specs.Prelude.{ℕ, ◌+◌, nat_lt, Bool, true, false, Option, Some, None, is_none, List, if◌then◌else◌}
 use Rattle.std.specs.Option.{option_map_or}
+use Rattle.node_base.specs.declared.limits.TheConstants.{REVISION}
 use Rattle.sync_core.specs.declared.sync_job.Known.{Known}
 use Rattle.sync_core.specs.declared.sync_job.SyncPhase.{SyncPhase}
 use Rattle.sync_core.specs.declared.sync_job.SyncPhase.TheVariants as phase
@@ -94,7 +95,7 @@ after_who known shape uuid a = give_up known (fault_in a)
 abbrev pub next : Known → ℕ → SyncPhase
 next known latest =
     if is_absent known.copying then (if nat_lt known.head latest then phase.SetCopying (known.head + 1) else phase.Release ending.Fine)
-    else (if nat_lt known.head 65535 then phase.Fetch (known.head + 1) else phase.Release (ending.Refused (inconsistent known)))
+    else (if nat_lt known.head REVISION then phase.Fetch (known.head + 1) else phase.Release (ending.Refused (inconsistent known)))
 
 abbrev pub after_latest : Known → Answer → SyncJob
 after_latest known (answer.Latest n) = at (record known { latest = Some n }) (next (record known { latest = Some n }) n)

@@ -6,7 +6,7 @@ ghost use Rattle.sync_core.specs.Faults.{fault_line, fault_text, tells_more};
 ghost use Rattle.sync_core.specs.declared.fault.SyncFault.TheVariants.{Inconsistent};
 
 use crate::fault::SyncFault;
-use node_base::{RevNo, ToldNumber};
+use node_base::{RevNo, ToldNumber, texts};
 use std::alloc::{AllocError, Global};
 use std::fmt;
 
@@ -24,13 +24,13 @@ impl SyncFault {
         ensures { tells_more self.now ≡ false → result.now ≡ fault_text self.now }
     {
         match self {
-            SyncFault::NotInitialised => "not initialized",
-            SyncFault::AlreadyInitialised => "already initialized",
-            SyncFault::NotEmpty => "the mirror has revisions",
-            SyncFault::WrongMaster => "the source is another repository",
-            SyncFault::NotHolder => "the sync lock is not held",
-            SyncFault::OutOfTurn => "call out of turn",
-            SyncFault::OutOfMemory => "out of memory",
+            SyncFault::NotInitialised => texts::NOT_INITIALISED,
+            SyncFault::AlreadyInitialised => texts::ALREADY_INITIALISED,
+            SyncFault::NotEmpty => texts::NOT_EMPTY,
+            SyncFault::WrongMaster => texts::WRONG_MASTER,
+            SyncFault::NotHolder => texts::NOT_HOLDER,
+            SyncFault::OutOfTurn => texts::OUT_OF_TURN,
+            SyncFault::OutOfMemory => texts::OUT_OF_MEMORY,
             _ => "",
         }
     }

@@ -2,6 +2,7 @@
 use Rattle.std.specs.Prelude.{◌≡◌, ◌≢◌, ◌⊎◌, ℕ, ◌+◌, ◌-◌, ◌≤◌, nat_lt, Bool, true, false, List, [], ◌∷◌, ◌++◌, Some, None, is_none, Result, Ok, Err, string_bytes}
 use Rattle.std.specs.List.{range_with_len}
 use Rattle.node_base.specs.Props.{PropMap}
+use Rattle.node_base.specs.declared.limits.TheConstants.{REVISION}
 use Rattle.sync_core.specs.declared.answer.Answer.{Answer}
 use Rattle.sync_core.specs.declared.answer.Answer.TheVariants as answer
 use Rattle.sync_core.specs.declared.ending.Ending.{Ending}
@@ -140,7 +141,7 @@ pub record IsBeyond (IsHigh : ℕ → Type 0) (es : List Spoken) (f : SyncFault)
 -- by what the job has heard a revision is noted as being copied, and none may follow the head (57)
 pub record IsStuck (job : Job) (f : SyncFault) : Type 0 where
   pub noted : is_absent job.copying ≡ false
-  pub full : nat_lt job.head 65535 ≡ false
+  pub full : nat_lt job.head REVISION ≡ false
   pub fault : f ≡ fault.Inconsistent (numbers.told_of job.merged None) (numbers.told_of job.copying None) job.head
 
 -- what a job refuses by itself for an answer, by what was said up to it: a look at a mirror that isn't initialised (51) or in no

@@ -2,6 +2,7 @@
 ghost use Rattle.std.specs.Prelude.{◌≡◌};
 ghost use Rattle.tree_reports.specs.declared.error.ReportError.TheVariants.{OutOfMemory};
 
+use node_base::texts;
 use std::alloc::AllocError;
 use thiserror::Error;
 
@@ -18,10 +19,10 @@ pub enum ReportError {
     #[error("the reported path is not in its revision")]
     NotThere,
     /// What is below the path would pass the limits of paths.
-    #[error("limit exceeded")]
+    #[error("{}", texts::TOO_LONG)]
     TooLong,
     /// Memory ran out.
-    #[error("out of memory")]
+    #[error("{}", texts::OUT_OF_MEMORY)]
     OutOfMemory,
 }
 

@@ -2,7 +2,7 @@
 ghost use Rattle.std.specs.Prelude.{◌≡◌};
 ghost use Rattle.whole_texts.specs.Refusals.{text_refusal, number_of, of_delta};
 
-use node_base::Refusal;
+use node_base::{Refusal, texts};
 use std::alloc::{AllocError, AllocFailed};
 use svndiff::delta_fault::DeltaFault;
 use thiserror::Error;
@@ -11,25 +11,25 @@ use thiserror::Error;
 #[derive(Clone, Copy, Debug, PartialEq, Eq, Drop, Error)]
 pub enum TextRefusal {
     /// The text that the delta is over, or the one that it makes, doesn't have its MD5 (6).
-    #[error("checksum mismatch")]
+    #[error("{}", texts::BAD_SUM)]
     BadSum,
     /// A window, or the text, is past its limit (8).
-    #[error("limit exceeded")]
+    #[error("{}", texts::TOO_LONG)]
     TooLong,
     /// Nothing is where a change wants a text (11).
-    #[error("no such path")]
+    #[error("{}", texts::NO_SUCH_PATH)]
     NoSuchPath,
     /// The source isn't in an earlier revision (14).
-    #[error("no such copy source")]
+    #[error("{}", texts::NO_SOURCE)]
     NoSource,
     /// A directory is where the delta wants a text (17).
-    #[error("node kind mismatch")]
+    #[error("{}", texts::KIND_MISMATCH)]
     KindMismatch,
     /// The bytes are no delta of the text that is there (44).
-    #[error("bad window")]
+    #[error("{}", texts::BAD_WINDOW)]
     BadWindow,
     /// A growth was refused (70).
-    #[error("out of memory")]
+    #[error("{}", texts::OUT_OF_MEMORY)]
     OutOfMemory,
 }
 

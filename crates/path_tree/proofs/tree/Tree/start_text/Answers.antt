@@ -2,6 +2,7 @@ use Rattle.std.proofs.Common.{Some, None, length, ◌≤◌, arith, sym, subst, 
 use Rattle.std.specs.Prelude.{IsSome}
 use Rattle.std.specs.FinMap.{get}
 use Rattle.node_base.specs.Tree.{IsDirAt, changed_at, with_given}
+use Rattle.node_base.specs.declared.limits.TheConstants.{TEXT_BYTES}
 use Rattle.path_tree.specs.Nodes.{HasNodes}
 use Rattle.path_tree.specs.Shape.{IsShape}
 use Rattle.path_tree.proofs.Altered.{changed_below, changed_as_graft}
@@ -27,7 +28,7 @@ edit-requires-clause-nodes c =
     let p = c.names.result.now in
     let text = c.in_ok-text.text in
     subst HasNodes (changed_as_graft (get c.args.self.now) p (with_given (Some text) None))
-    (nodes-changed (get c.args.self.now) p (Some text) None (subst (λ t. length t ≤ 1048576) (sym c.in_ok-text.ensures) (omega arith)) tt c.limits.ensures.kept)
+    (nodes-changed (get c.args.self.now) p (Some text) None (subst (λ t. length t ≤ TEXT_BYTES) (sym c.in_ok-text.ensures) (omega arith)) tt c.limits.ensures.kept)
 
 pub returns-clause-ok : goal.returns-clause-ok
 returns-clause-ok c = λ q.

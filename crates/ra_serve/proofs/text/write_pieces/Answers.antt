@@ -1,5 +1,5 @@
 use Rattle.ra_serve.proofs.Pieces.{one_more_piece}
-use Rattle.ra_browse.proofs.file.write_pieces.Goals as goal
+use Rattle.ra_serve.proofs.text.write_pieces.Goals as goal
 
 pub loop-rest-preserved : goal.loop-rest-preserved
 loop-rest-preserved g c =
