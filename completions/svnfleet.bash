@@ -1,4 +1,5 @@
-# Completion of svnfleet's words in bash: the commands, the options of each, and folders where one is wanted.
+# Completion of svnfleet's words in bash: the commands, the options of each, and folders where one is wanted. What is none of
+# these, as a file behind <, bash completes.
 _svnfleet() {
     local word=${COMP_WORDS[COMP_CWORD]} before=${COMP_WORDS[COMP_CWORD - 1]} options=
     COMPREPLY=()
@@ -8,6 +9,7 @@ _svnfleet() {
         return
     fi
     case $before in
+    '<' | '>' | '>>') return ;;
     --uuid | -r | --message | --moment | --token | --port | --connections | --timeout | --root-url | --workers) return ;;
     esac
     case ${COMP_WORDS[1]} in
@@ -30,4 +32,4 @@ _svnfleet() {
         mapfile -t COMPREPLY < <(compgen -d -- "$word")
     fi
 }
-complete -F _svnfleet svnfleet
+complete -o default -F _svnfleet svnfleet

@@ -169,12 +169,13 @@ check 'follow: and noted' ends 0 "$follow" --check archive mirror other 'a third
 mirror_of archive fourth
 mv 'a third' away
 check 'follow: a mirror that is gone' ends 1 "$follow" archive fourth 'a third'
-check 'follow: it is told' grep -qx 'a third: 34 no repository' said
+check 'follow: it is told' grep -qx 'a third: 34 no repository' errors
 check 'follow: another one is brought up' has fourth 8
 mv away 'a third'
 check 'follow: no folder of the source' ends 1 "$follow" nowhere/at-all mirror
 check 'follow: no source' ends 1 "$follow" nowhere mirror
-check 'follow: no source is told' test "$(cat errors)" = 'svnfleet: 34 no repository'
+check 'follow: no source is told' test "$(cat errors)" = 'follow: there is no folder nowhere'
+check 'follow: no source has no lock' test ! -e nowhere.lock
 
 # an edited property grows the source, and is no change that a run brings along
 port=$(a_port)

@@ -214,6 +214,23 @@ svn propdel -q --revprop -r 5 large "$url"
 check 'edits: the next one' edits propset svn:log found -r 5
 check 'edits: brings it along' compares 0
 
+# a command by hand that has the archive open is waited for
+flock archive/journal sleep 2 &
+sleep 0.3
+check 'hook: beside a command by hand' commit a.txt beside
+check 'hook: which has ended' flock -n archive/journal true
+flock archive/journal sleep 2 &
+sleep 0.3
+check 'edits: beside a command by hand' edits propset svn:log beside -r 5
+wait
+check 'compare: the same beside commands by hand' compares 0
+
+# what can't be written isn't compared
+mkdir failing
+printf '#!/bin/sh\nexit 1\n' >failing/tail
+chmod +x failing/tail
+check 'compare: a full disk' ends 2 env PATH="$PWD/failing:$PATH" "$examples/compare" repo archive
+
 # ---- beside a mirror: commits with their hooks, and runs over the archive's mirror, each of which is a real one
 
 rm -rf archive archive.lock

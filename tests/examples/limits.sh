@@ -185,6 +185,9 @@ svnadmin setrevprop several -r 0 svn:sync-from-url text
 check 'limits: a mirror' ends 1 "$examples/fits" several --exclude '/a first' --exclude '/the second'
 check 'limits: it is told' test "$(cat said)" = 'revision 0: svn:sync-from-url makes the archive a mirror (24): load from revision 1 on'
 check 'limits: no repository' ends 2 "$examples/fits" nowhere
+check 'limits: nowhere to tell it' sh -c '"$1" nowhere 2>/dev/full; test $? -eq 2' sh "$examples/fits"
+check 'limits: nowhere to print' sh -c '"$1" several >&- 2>said; test $? -eq 2' sh "$examples/fits"
+check 'limits: which is told' test "$(cat said)" = 'fits: standard output is closed'
 check 'limits: an option that svnadmin has not' ends 2 "$examples/fits" several --no-such-option
 rm several/db/revs/0/2
 check 'limits: a repository that breaks off' ends 2 "$examples/fits" several

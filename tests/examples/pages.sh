@@ -145,7 +145,7 @@ check 'OPERATING: a damaged entry is told' test "$(cat errors)" = "svnfleet: 33 
 operated 'Refusal 33: damage' 1
 check 'OPERATING: the archive is built anew' test "$(tail -n 1 said)" = 'the same'
 # (salvage tells by its status that something is damaged)
-operated 'Refusal 33: damage' 2 '1s/$/ || test $? -eq 1/'
+operated 'Refusal 33: damage' 3 '1s/$/ || test $? -eq 1/'
 check 'OPERATING: what is not proved is told' grep -q '^entry [0-9]*, b.txt: the text, or its sum, is wrong' errors
 check 'OPERATING: all revisions are saved' test "$(tail -n 1 said)" = 'Loaded revision 23.'
 rm -r damaged new
@@ -223,6 +223,10 @@ operated 'Compare' 1
 check 'OPERATING: the archive is its repository' grep -qx 'the same' said
 operated 'Compare' 2
 check 'OPERATING: the mirror is its archive' grep -qx 'the same' said
+operated 'Refusal 33: damage' 2 's/HEAD/25/'
+for it in archive again; do "$program" dump $it -r 1:25 >$it.whole </dev/null; done
+check 'OPERATING: the mirror is an archive again' cmp archive.whole again.whole
+rm -r again archive.whole again.whole
 operated 'Back up and restore' 1
 operated 'Back up and restore' 2
 check 'OPERATING: the restored repository has all' test "$(svnlook youngest "$pages/srv/restored")" -eq 25

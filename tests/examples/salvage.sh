@@ -213,3 +213,6 @@ mkdir empty
 : >empty/journal
 check 'salvage: nothing to read' ends 2 "$examples/salvage" empty
 check 'salvage: a full disk' sh -c '"$1" sound >/dev/full 2>errors; test $? -eq 2' sh "$examples/salvage"
+check 'salvage: nowhere to write' sh -c '"$1" sound >&- 2>errors; test $? -eq 2' sh "$examples/salvage"
+: >damaged/slots
+check 'salvage: nowhere to tell' sh -c '"$1" damaged >saved.dump 2>/dev/full; test $? -eq 2' sh "$examples/salvage"

@@ -28,7 +28,7 @@ from trials import TEXTS as REFUSALS
 GREETING = b'( success ( 2 2 ( ) ( edit-pipeline depth ) ) ) '
 # The numbers of Subversion by which a client decides, and what the program says with each.
 TEXTS = {160006: 'no such revision', 160013: 'path not found', 160016: 'not a directory', 160017: 'not a file',
-         165004: 'bad revision report', 200007: 'not supported', 210001: 'unknown command', 210004: 'bad command shape'}
+         165004: 'bad revision report', 200007: 'not supported', 210001: 'this server only answers readers', 210004: 'bad command shape'}
 NO_URL, OTHER = (170000, 'not a URL of a session'), (170000, 'not the same repository')
 NOWHEN = b'1970-01-01T00:00:00.000000Z'
 DEPTHS = [b'empty', b'files', b'immediates', b'infinity', b'unknown']
