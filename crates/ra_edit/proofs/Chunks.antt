@@ -25,7 +25,7 @@ one_part (b ∷ text) h =
     ap (λ t. take 65536 (b ∷ text) ∷ t) (enough_parts (length text) (length (drop 65536 (b ∷ text))) (drop 65536 (b ∷ text)) (omega (arith, d)) (omega arith))
 
 -- as much as may be, and the rest
-next_part : (text : List ℕ) (k : ℕ) → 0 < length text → (k ≡ 65536) ⊎ ((k ≡ length text) × (k ≤ 65536)) → parts text ≡ take k text ∷ parts (drop k text)
+pub next_part : (text : List ℕ) (k : ℕ) → 0 < length text → (k ≡ 65536) ⊎ ((k ≡ length text) × (k ≤ 65536)) → parts text ≡ take k text ∷ parts (drop k text)
 next_part text k h (inl e) = rw e (one_part text h)
 next_part text k h (inr e) =
     let s = rw e.0 at e.1 in

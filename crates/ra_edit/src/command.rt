@@ -269,8 +269,8 @@ pub fn write_text_start<W: Write>(out: &mut W, file: u64) -> io::Result<()>
     write_bytes(out, Name::TextdeltaChunk, file, b"SVN\x00")
 }
 
-/// A window as a string.
-fn write_window_text<W: Write>(out: &mut W, bytes: &[u8]) -> io::Result<()>
+/// A window as a string, of at most 65,536 bytes of a text. `Err` where the writer failed.
+pub fn write_window_text<W: Write>(out: &mut W, bytes: &[u8]) -> io::Result<()>
     requires { length bytes.now ≤ 65536 }
     ensures { OnOk result (Appends (W.contents out.old) (W.contents out.new) (spell (Text (window bytes.now)))) }
 {

@@ -28,5 +28,6 @@ pub mod shape_fault;
 mod token;
 pub mod wire;
 
+pub use command::write_window_text;
 pub use ra_item::stream;
 pub use svndiff::{fault, reader, writer};
