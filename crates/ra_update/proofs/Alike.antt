@@ -1,5 +1,6 @@
--- What is told beside the calls of a drive changes nothing but the properties of its names.
-use Rattle.std.proofs.Common.{◌≡◌, ℕ, Bool, true, false, true≢false, cond, List, [], ◌∷◌, ◌++◌, length, Option, Some, None, refl, sym, ap, subst, ◌∙◌}
+-- What is told beside the calls of a drive changes nothing but the properties of its names, and what isn't told, where it
+-- changes nothing, isn't missed.
+use Rattle.std.proofs.Common.{◌≡◌, ℕ, Bool, true, false, true≢false, cond, List, [], ◌∷◌, ◌++◌, length, Option, Some, None, refl, sym, ap, ◌∙◌}
 use Rattle.std.specs.Option.{option_map, option_map_or}
 use Rattle.std.specs.List.{AllByRecursion}
 use Rattle.std.specs.FinMap as finite
@@ -10,20 +11,21 @@ use Rattle.node_base.specs.Tree.{PathMap, edited, marked, grafted, with_number}
 use Rattle.node_base.specs.declared.node.Node.{Node}
 use Rattle.node_base.specs.declared.node.NodeKind.TheVariants.{File, Dir}
 use Rattle.delta_editor.specs.CallEffect.{added, called, all_called, prop_put, with_prop, with_text, with_piece}
-use Rattle.delta_editor.proofs.CallLemmas.{all_called-append, get-prop_put}
+use Rattle.delta_editor.proofs.CallLemmas.{get-prop_put}
 use Rattle.delta_editor.specs.declared.call.Call.{Call}
 use Rattle.delta_editor.specs.declared.call.Call.TheVariants as call
 use Rattle.ra_update.specs.Alike.{is_entry, IsLike, AreAlike}
-use Rattle.ra_update.specs.Entries.{given, entry_props, entry_calls, root_calls, updated, all_updated}
+use Rattle.ra_update.specs.Reported.{dir_in, file_in, has_already}
+use Rattle.ra_update.specs.Entries.{given, entry_props, entry_calls, root_calls, updated}
 use Rattle.ra_update.specs.declared.facts.Facts.{Facts}
 
-abbrev Nodes : Type 0
+abbrev pub Nodes : Type 0
 Nodes = Path → Option Node
 
-abbrev Alike : Nodes → Nodes → Type 0
+abbrev pub Alike : Nodes → Nodes → Type 0
 Alike f e = (q : Path) → AreAlike (f q) (e q)
 
-like_itself : (x : Node) → IsLike x x
+pub like_itself : (x : Node) → IsLike x x
 like_itself x = record { text = refl; props = λ n h. refl }
 
 pub alike_itself : (o : Option Node) → AreAlike o o
@@ -128,26 +130,40 @@ file_told trees k p f e a = elim (finite.get k.target.now p) as (λ o. Alike f (
   | Some x ↦ files_told trees p (entry_props k x) (are_entries k x) f e a
 ]
 
--- a call, and the same with what is told beside it
-updated_alike : (trees : List PathMap) (k : Facts) (f e : Nodes) (c : Call) → Alike f e → Alike (called trees f c) (all_called trees e (updated k c))
-updated_alike trees k f e (call.Target n) a = a
-updated_alike trees k f e (call.OpenRoot base) a = root_told trees k (called trees f (call.OpenRoot base)) (called trees e (call.OpenRoot base)) (called_both trees f e (call.OpenRoot base) a)
-updated_alike trees k f e (call.AddDir up p from) a = dir_told trees k p (called trees f (call.AddDir up p from)) (called trees e (call.AddDir up p from)) (called_both trees f e (call.AddDir up p from) a)
-updated_alike trees k f e (call.OpenDir up p base) a = dir_told trees k p (called trees f (call.OpenDir up p base)) (called trees e (call.OpenDir up p base)) (called_both trees f e (call.OpenDir up p base) a)
-updated_alike trees k f e (call.DeleteEntry up p base) a = called_both trees f e (call.DeleteEntry up p base) a
-updated_alike trees k f e (call.AddFile up p from) a = file_told trees k p (called trees f (call.AddFile up p from)) (called trees e (call.AddFile up p from)) (called_both trees f e (call.AddFile up p from) a)
-updated_alike trees k f e (call.OpenFile up p base) a = file_told trees k p (called trees f (call.OpenFile up p base)) (called trees e (call.OpenFile up p base)) (called_both trees f e (call.OpenFile up p base) a)
-updated_alike trees k f e (call.DirProp p name value) a = called_both trees f e (call.DirProp p name value) a
-updated_alike trees k f e (call.FileProp p name value) a = called_both trees f e (call.FileProp p name value) a
-updated_alike trees k f e (call.TextStart p) a = called_both trees f e (call.TextStart p) a
-updated_alike trees k f e (call.TextPiece p piece) a = called_both trees f e (call.TextPiece p piece) a
-updated_alike trees k f e (call.TextEnd p) a = a
-updated_alike trees k f e (call.CloseFile p sum) a = a
-updated_alike trees k f e (call.CloseDir p) a = a
-updated_alike trees k f e call.CloseEdit a = a
+-- ---- what isn't told
 
-pub all_alike : (trees : List PathMap) (k : Facts) (f e : Nodes) (cs : List Call) → Alike f e → Alike (all_called trees f cs) (all_called trees e (all_updated k cs))
-all_alike trees k f e [] a = a
-all_alike trees k f e (c ∷ cs) a =
-    subst (Alike (all_called trees (called trees f c) cs)) (sym (all_called-append trees e (updated k c) (all_updated k cs)))
-    (all_alike trees k (called trees f c) (all_called trees e (updated k c)) cs (updated_alike trees k f e c a))
+alike_through : (o u w : Option Node) → AreAlike o u → AreAlike u w → AreAlike o w
+alike_through None None None a b = tt
+alike_through None None (Some z) a b = absurd b
+alike_through None (Some y) w a b = absurd a
+alike_through (Some x) None w a b = absurd a
+alike_through (Some x) (Some y) None a b = absurd b
+alike_through (Some x) (Some y) (Some z) a b = record { text = a.text ∙ b.text; props = λ n h. a.props n h ∙ b.props n h }
+
+-- a call that isn't told changes nothing
+abbrev pub Idles : List PathMap → PathMap → Nodes → Call → Type 0
+Idles trees m f (call.DirProp p name value) = has_already (dir_in m p) name value ≡ true → Alike (called trees f (call.DirProp p name value)) f
+Idles trees m f (call.FileProp p name value) = has_already (file_in m p) name value ≡ true → Alike (called trees f (call.FileProp p name value)) f
+Idles trees m f _ = Unit {0}
+
+left_alike : (trees : List PathMap) (f e : Nodes) (c : Call) (b : Bool) → (b ≡ true → Alike (called trees f c) f) → Alike f e → Alike (called trees f c) (all_called trees e (cond b [] (c ∷ [])))
+left_alike trees f e c true h a = λ q. alike_through (called trees f c q) (f q) (e q) (h refl q) (a q)
+left_alike trees f e c false h a = called_both trees f e c a
+
+-- a call, and the same with what is told beside it
+pub updated_alike : (trees : List PathMap) (k : Facts) (m : PathMap) (f e : Nodes) (c : Call) → Idles trees m f c → Alike f e → Alike (called trees f c) (all_called trees e (updated k m c))
+updated_alike trees k m f e (call.Target n) i a = a
+updated_alike trees k m f e (call.OpenRoot base) i a = root_told trees k (called trees f (call.OpenRoot base)) (called trees e (call.OpenRoot base)) (called_both trees f e (call.OpenRoot base) a)
+updated_alike trees k m f e (call.AddDir up p from) i a = dir_told trees k p (called trees f (call.AddDir up p from)) (called trees e (call.AddDir up p from)) (called_both trees f e (call.AddDir up p from) a)
+updated_alike trees k m f e (call.OpenDir up p base) i a = dir_told trees k p (called trees f (call.OpenDir up p base)) (called trees e (call.OpenDir up p base)) (called_both trees f e (call.OpenDir up p base) a)
+updated_alike trees k m f e (call.DeleteEntry up p base) i a = called_both trees f e (call.DeleteEntry up p base) a
+updated_alike trees k m f e (call.AddFile up p from) i a = file_told trees k p (called trees f (call.AddFile up p from)) (called trees e (call.AddFile up p from)) (called_both trees f e (call.AddFile up p from) a)
+updated_alike trees k m f e (call.OpenFile up p base) i a = file_told trees k p (called trees f (call.OpenFile up p base)) (called trees e (call.OpenFile up p base)) (called_both trees f e (call.OpenFile up p base) a)
+updated_alike trees k m f e (call.DirProp p name value) i a = left_alike trees f e (call.DirProp p name value) (has_already (dir_in m p) name value) i a
+updated_alike trees k m f e (call.FileProp p name value) i a = left_alike trees f e (call.FileProp p name value) (has_already (file_in m p) name value) i a
+updated_alike trees k m f e (call.TextStart p) i a = called_both trees f e (call.TextStart p) a
+updated_alike trees k m f e (call.TextPiece p piece) i a = called_both trees f e (call.TextPiece p piece) a
+updated_alike trees k m f e (call.TextEnd p) i a = a
+updated_alike trees k m f e (call.CloseFile p sum) i a = a
+updated_alike trees k m f e (call.CloseDir p) i a = a
+updated_alike trees k m f e call.CloseEdit i a = a

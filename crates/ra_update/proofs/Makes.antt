@@ -2,6 +2,7 @@
 use Rattle.std.proofs.Common.{◌≡◌, ℕ, List, [], ◌∷◌, ◌++◌, Option, Some, None, Result, Ok, Err, IfOk, IfErr, OnOk, inl, inr, sym, ap, subst, ◌∙◌}
 use Rattle.std.specs.Option.{option_map, option_map_or}
 use Rattle.std.proofs.lemmas.Option.{none-some}
+use Rattle.std.specs.List.{AllByRecursion}
 use Rattle.std.specs.FinMap as finite
 use Rattle.std.specs.Io.KnownBytes.{Appends}
 use Rattle.node_base.specs.Path.{Path}
@@ -27,7 +28,9 @@ use Rattle.ra_update.specs.Sent.{up_to_end, calls_told, end_item, Make, IsUnsent
 use Rattle.ra_update.specs.Updates.{IsUpdate, MayStop}
 use Rattle.delta_editor.specs.declared.fault.EditorFault.{EditorFault}
 use Rattle.ra_update.specs.declared.facts.Facts.{Facts}
-use Rattle.ra_update.proofs.Alike.{alike_itself, all_alike}
+use Rattle.ra_update.proofs.Alike.{alike_itself}
+use Rattle.ra_update.proofs.Told.{calls_say_it}
+use Rattle.ra_update.proofs.Untold.{Says, starts, all_alike}
 use Rattle.ra_update.proofs.Nested.{drive_is}
 
 -- what is like a node of that content
@@ -48,10 +51,10 @@ drive_but_end m s q =
     ap (λ cs. all_called (m ∷ []) (finite.get m) cs q) (drive_is (m ∷ []) s)
     ∙ ap (λ (f : Path → Option Node). f q) (all_called-append (m ∷ []) (finite.get m) (up_to_end (m ∷ []) s) (call.CloseEdit ∷ []))
 
-pub makes : (m wanted : PathMap) (k : Facts) (s : List Change) → ((q : Path) → option_map content (call_effect (m ∷ []) (drive (m ∷ []) s) q) ≡ option_map content (finite.get wanted q)) → Make m wanted (calls_told k (m ∷ []) s)
-makes m wanted k s h q =
+pub makes : (m wanted : PathMap) (k : Facts) (s : List Change) → AllByRecursion (Says m wanted) (up_to_end (m ∷ []) s) → ((q : Path) → option_map content (call_effect (m ∷ []) (drive (m ∷ []) s) q) ≡ option_map content (finite.get wanted q)) → Make m wanted (calls_told k (m ∷ []) s)
+makes m wanted k s says h q =
     like_content (all_called (m ∷ []) (finite.get m) (up_to_end (m ∷ []) s) q) (all_called (m ∷ []) (finite.get m) (calls_told k (m ∷ []) s) q) (finite.get wanted q)
-    (all_alike (m ∷ []) k (finite.get m) (finite.get m) (up_to_end (m ∷ []) s) (λ p. alike_itself (finite.get m p)) q)
+    (all_alike m wanted (m ∷ []) k (finite.get m) (finite.get m) (up_to_end (m ∷ []) s) says (starts m wanted) (λ p. alike_itself (finite.get m p)) q)
     (sym (ap (option_map content) (drive_but_end m s q)) ∙ h q)
 
 -- what was written of changes between two trees is an update
@@ -61,7 +64,9 @@ pub is_update : {T F : Type 0} (contents : T → Option (List ℕ)) (m : PathMap
 is_update contents m k out s items (Ok w) e law between normal makes_it bytes faultless = record {
   changes = s;
   between = subst (AreBetween k.opens m k.target.now) (sym e) between;
-  makes = makes m k.target.now k s (λ q. ap (option_map content) (law (m ∷ []) s (subst IsNormal (sym e) normal) faultless q ∙ ap (λ l. effect (m ∷ []) l q) e) ∙ makes_it q);
+  makes = makes m k.target.now k s
+      (subst (λ l. AllByRecursion (Says m k.target.now) (up_to_end (m ∷ []) l)) (sym (e ∙ between.2)) (calls_say_it m k.target.now k.opens (m ∷ []) between.0 between.1))
+      (λ q. ap (option_map content) (law (m ∷ []) s (subst IsNormal (sym e) normal) faultless q ∙ ap (λ l. effect (m ∷ []) l q) e) ∙ makes_it q);
   bytes = bytes;
 }
 is_update contents m k out s items (Err f) e law between normal makes_it bytes faultless = tt

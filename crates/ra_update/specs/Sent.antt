@@ -21,6 +21,12 @@ use Rattle.ra_update.specs.Alike.{AreAlike}
 use Rattle.ra_update.specs.Entries.{all_updated}
 use Rattle.ra_update.specs.declared.facts.Facts.{Facts}
 
+-- the newest of some trees
+abbrev pub newest : List PathMap → PathMap
+newest [] = finite.empty
+newest (m ∷ []) = m
+newest (m ∷ n ∷ ms) = newest (n ∷ ms)
+
 -- the calls of a drive but for the end
 abbrev pub up_to_end : List PathMap → List Change → List Call
 up_to_end trees s = call.Target (length trees) ∷ call.OpenRoot (base_number trees) ∷ (walk trees [] [] s ++ call.CloseDir [] ∷ [])
@@ -29,9 +35,9 @@ up_to_end trees s = call.Target (length trees) ∷ call.OpenRoot (base_number tr
 abbrev pub end_item : Item
 end_item = command (word_of word.CloseEdit) []
 
--- those calls with what is told beside them
+-- those calls with what is told beside them, and without what the newest tree has already, which is the reported one
 abbrev pub calls_told : Facts → List PathMap → List Change → List Call
-calls_told k trees s = all_updated k (up_to_end trees s)
+calls_told k trees s = all_updated k (newest trees) (up_to_end trees s)
 
 -- applied to what was reported, the calls give what is wanted, but for the properties that are told beside a node's own
 abbrev pub Make : PathMap → PathMap → List Call → Type 0

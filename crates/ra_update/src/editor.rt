@@ -6,28 +6,34 @@ ghost use Rattle.std.specs.FinMap as finite;
 ghost use Rattle.node_base.specs.Path.{Path};
 ghost use Rattle.delta_editor.specs.Calls.{Adds};
 ghost use Rattle.delta_editor.specs.declared.call.Call.TheVariants as call;
-ghost use Rattle.delta_editor.specs.declared.fault.EditorFault.TheVariants.{OutOfMemory, PeerFailed};
+ghost use Rattle.delta_editor.specs.declared.fault.EditorFault.TheVariants.{OutOfMemory};
 ghost use Rattle.ra_edit.specs.Wire.{Shows, held_before};
 ghost use Rattle.ra_update.specs.Entries.{entry_calls, entry_props, given, revision_prop, root_calls};
 ghost use Rattle.ra_update.specs.Updated.{Begun, ShowsUpdated, Stopped, begun, begun_with, done_begun_with};
 ghost use Rattle.ra_update.specs.Updated.{path_of_dir, path_of_file, written_by};
+ghost use Rattle.ra_update.specs.Updates.{MayStop};
 
+use crate::batons::{UpdateDir, UpdateFile};
 use crate::facts::Facts;
 use crate::names::EntryNames;
+use crate::reported::{dir_in, file_in, has_already};
 use delta_editor::{Editor, EditorFault, Source};
 use itoa::Buffer;
 use node_base::{Node, NodePath, PropName, RevNo};
+use path_tree::Tree;
 use ra_edit::wire::{WireDir, WireEditor, WireFile, Written};
 use std::alloc::Global;
 use std::io::Write;
 
 /// Writes what a drive shows it, each call with the edit's revisions in place of the drive's, and behind each call that
-/// opens or adds something what a client wants to know of the target's node there.
+/// opens or adds something what a client wants to know of the target's node there. It leaves out each property that the
+/// tree which was reported has there, in a node of that kind, with that value.
 pub struct UpdateEditor<'a, W: Write + Drop> {
     alloc: Global,
     inner: WireEditor<W>,
     names: EntryNames,
     facts: &'a Facts<'a>,
+    reported: &'a Tree,
 }
 
 /// The writer behind an edit that was ended as a replay.
@@ -35,17 +41,19 @@ pub struct UpdateEditor<'a, W: Write + Drop> {
 pub struct Ended<'a, W> {
     out: Written<W>,
     facts: &'a Facts<'a>,
+    reported: &'a Tree,
 }
 
 impl<'a, W: Write + Drop> UpdateEditor<'a, W> {
     /// An editor that writes behind what the writer has.
     pub fn new(
         alloc: Global,
+        reported: &'a Tree,
         facts: &'a Facts<'a>,
         out: W,
     ) -> Result<UpdateEditor<'a, W>, EditorFault>
         ensures begins { IfOk result (λ e. ShowsUpdated W.contents e []) }
-        ensures began { IfOk result (λ e. begun_with W.contents e ≡ begun (W.contents out) facts.now) }
+        ensures began { IfOk result (λ e. begun_with W.contents e ≡ begun (W.contents out) facts.now reported.now) }
         ensures memory { IfErr result (λ e. e ≡ OutOfMemory) }
     {
         let names = EntryNames::new(alloc)?;
@@ -55,6 +63,7 @@ impl<'a, W: Write + Drop> UpdateEditor<'a, W> {
             inner,
             names,
             facts,
+            reported,
         })
     }
 
@@ -67,6 +76,7 @@ impl<'a, W: Write + Drop> UpdateEditor<'a, W> {
             inner,
             names: _,
             facts: _,
+            reported: _,
         } = self;
         inner.into_writer()
     }
@@ -137,24 +147,24 @@ fn entered<W: Write + Drop>(
     editor: &mut WireEditor<W>,
     names: &EntryNames,
     facts: &Facts<'_>,
-    dir: WireDir,
-    path: &NodePath,
-) -> Result<WireDir, EditorFault>
-    requires { path_of_dir dir ≡ path.now }
+    wire: WireDir,
+    path: NodePath,
+) -> Result<UpdateDir, EditorFault>
+    requires { path_of_dir wire ≡ path }
     ensures shown { OnOk result
-        (Adds (Shows W.contents) editor.old editor.new (entry_calls facts.now call.DirProp path.now)) }
+        (Adds (Shows W.contents) editor.old editor.new (entry_calls facts.now call.DirProp path)) }
     ensures refused { IfErr result (Stopped W.contents editor.old) }
-    ensures baton { IfOk result (λ d. path_of_dir d ≡ path.now) }
+    ensures baton { IfOk result (λ d. path_of_dir d.wire ≡ path) }
     ensures began { held_before W.contents editor.new ≡ held_before W.contents editor.old }
 {
-    let mut dir = dir;
+    let mut wire = wire;
     let Some(node) = facts.target.get(path.names()) else {
-        return Ok(dir);
+        return Ok(UpdateDir { wire, path });
     };
-    match tell_dir(editor, names, facts, &mut dir, node) {
-        Ok(()) => Ok(dir),
+    match tell_dir(editor, names, facts, &mut wire, node) {
+        Ok(()) => Ok(UpdateDir { wire, path }),
         Err(fault) => {
-            editor.discard_dir(dir);
+            editor.discard_dir(wire);
             Err(fault)
         }
     }
@@ -165,20 +175,20 @@ fn root_entered<W: Write + Drop>(
     editor: &mut WireEditor<W>,
     names: &EntryNames,
     facts: &Facts<'_>,
-    dir: WireDir,
-    root: &NodePath,
-) -> Result<WireDir, EditorFault>
-    requires is { path_of_dir dir ≡ root.now }
-    requires root { root.now ≡ [] }
+    wire: WireDir,
+    root: NodePath,
+) -> Result<UpdateDir, EditorFault>
+    requires is { path_of_dir wire ≡ root }
+    requires root { root ≡ [] }
     ensures shown { OnOk result (Adds (Shows W.contents) editor.old editor.new (root_calls facts.now)) }
     ensures refused { IfErr result (Stopped W.contents editor.old) }
-    ensures baton { IfOk result (λ d. path_of_dir d ≡ root.now) }
+    ensures baton { IfOk result (λ d. path_of_dir d.wire ≡ root) }
     ensures began { held_before W.contents editor.new ≡ held_before W.contents editor.old }
 {
     if !facts.tells_root {
-        return Ok(dir);
+        return Ok(UpdateDir { wire, path: root });
     }
-    entered(editor, names, facts, dir, root)
+    entered(editor, names, facts, wire, root)
 }
 
 // A file that was opened, with what is told of it.
@@ -186,33 +196,33 @@ fn started<W: Write + Drop>(
     editor: &mut WireEditor<W>,
     names: &EntryNames,
     facts: &Facts<'_>,
-    file: WireFile,
-    path: &NodePath,
-) -> Result<WireFile, EditorFault>
-    requires { path_of_file file ≡ path.now }
+    wire: WireFile,
+    path: NodePath,
+) -> Result<UpdateFile, EditorFault>
+    requires { path_of_file wire ≡ path }
     ensures shown { OnOk result
-        (Adds (Shows W.contents) editor.old editor.new (entry_calls facts.now call.FileProp path.now)) }
+        (Adds (Shows W.contents) editor.old editor.new (entry_calls facts.now call.FileProp path)) }
     ensures refused { IfErr result (Stopped W.contents editor.old) }
-    ensures baton { IfOk result (λ f. path_of_file f ≡ path.now) }
+    ensures baton { IfOk result (λ f. path_of_file f.wire ≡ path) }
     ensures began { held_before W.contents editor.new ≡ held_before W.contents editor.old }
 {
-    let mut file = file;
+    let mut wire = wire;
     let Some(node) = facts.target.get(path.names()) else {
-        return Ok(file);
+        return Ok(UpdateFile { wire, path });
     };
-    match tell_file(editor, names, facts, &mut file, node) {
-        Ok(()) => Ok(file),
+    match tell_file(editor, names, facts, &mut wire, node) {
+        Ok(()) => Ok(UpdateFile { wire, path }),
         Err(fault) => {
-            editor.discard_file(file);
+            editor.discard_file(wire);
             Err(fault)
         }
     }
 }
 
 impl<'a, W: Write + Drop> Editor for UpdateEditor<'a, W> {
-    type Dir = WireDir;
+    type Dir = UpdateDir;
 
-    type File = WireFile;
+    type File = UpdateFile;
 
     type Done = Ended<'a, W>;
 
@@ -220,9 +230,9 @@ impl<'a, W: Write + Drop> Editor for UpdateEditor<'a, W> {
 
     ghost done_shows = { λ d calls. Unit {0} };
 
-    ghost dir_path = { path_of_dir };
+    ghost dir_path = { λ d. path_of_dir d.wire };
 
-    ghost file_path = { path_of_file };
+    ghost file_path = { λ f. path_of_file f.wire };
 
     ghost Began = { Begun };
 
@@ -230,7 +240,8 @@ impl<'a, W: Write + Drop> Editor for UpdateEditor<'a, W> {
 
     ghost done_began = { done_begun_with W.contents };
 
-    ghost refuses = { λ begun calls c e. e ≡ PeerFailed };
+    // Memory is wanted for what it opens.
+    ghost refuses = { λ begun calls c e. MayStop e };
 
     // It keeps neither what it is let go of nor that it is given up.
     ghost lets_go = { λ e paths. Unit {0} };
@@ -241,105 +252,119 @@ impl<'a, W: Write + Drop> Editor for UpdateEditor<'a, W> {
         self.inner.target(self.facts.number)
     }
 
-    fn open_root(&mut self, _base: Option<RevNo>) -> Result<WireDir, EditorFault> {
+    fn open_root(&mut self, _base: Option<RevNo>) -> Result<UpdateDir, EditorFault> {
         let root = NodePath::root(self.alloc);
         let dir = self.inner.open_root(self.facts.base)?;
-        root_entered(&mut self.inner, &self.names, self.facts, dir, &root)
+        root_entered(&mut self.inner, &self.names, self.facts, dir, root)
     }
 
     fn add_dir(
         &mut self,
-        up: &mut WireDir,
+        up: &mut UpdateDir,
         path: &NodePath,
         from: Option<&Source>,
-    ) -> Result<WireDir, EditorFault> {
-        let dir = self.inner.add_dir(up, path, from)?;
-        entered(&mut self.inner, &self.names, self.facts, dir, path)
+    ) -> Result<UpdateDir, EditorFault> {
+        let place = path.copy(self.alloc)?;
+        let dir = self.inner.add_dir(&mut up.wire, path, from)?;
+        entered(&mut self.inner, &self.names, self.facts, dir, place)
     }
 
     fn open_dir(
         &mut self,
-        up: &mut WireDir,
+        up: &mut UpdateDir,
         path: &NodePath,
         _base: Option<RevNo>,
-    ) -> Result<WireDir, EditorFault> {
-        let dir = self.inner.open_dir(up, path, self.facts.base)?;
-        entered(&mut self.inner, &self.names, self.facts, dir, path)
+    ) -> Result<UpdateDir, EditorFault> {
+        let place = path.copy(self.alloc)?;
+        let dir = self.inner.open_dir(&mut up.wire, path, self.facts.base)?;
+        entered(&mut self.inner, &self.names, self.facts, dir, place)
     }
 
     fn delete_entry(
         &mut self,
-        up: &mut WireDir,
+        up: &mut UpdateDir,
         path: &NodePath,
         _base: Option<RevNo>,
     ) -> Result<(), EditorFault> {
-        self.inner.delete_entry(up, path, self.facts.base)
+        self.inner.delete_entry(&mut up.wire, path, self.facts.base)
     }
 
     fn add_file(
         &mut self,
-        up: &mut WireDir,
+        up: &mut UpdateDir,
         path: &NodePath,
         from: Option<&Source>,
-    ) -> Result<WireFile, EditorFault> {
-        let file = self.inner.add_file(up, path, from)?;
-        started(&mut self.inner, &self.names, self.facts, file, path)
+    ) -> Result<UpdateFile, EditorFault> {
+        let place = path.copy(self.alloc)?;
+        let file = self.inner.add_file(&mut up.wire, path, from)?;
+        started(&mut self.inner, &self.names, self.facts, file, place)
     }
 
     fn open_file(
         &mut self,
-        up: &mut WireDir,
+        up: &mut UpdateDir,
         path: &NodePath,
         _base: Option<RevNo>,
-    ) -> Result<WireFile, EditorFault> {
-        let file = self.inner.open_file(up, path, self.facts.base)?;
-        started(&mut self.inner, &self.names, self.facts, file, path)
+    ) -> Result<UpdateFile, EditorFault> {
+        let place = path.copy(self.alloc)?;
+        let file = self.inner.open_file(&mut up.wire, path, self.facts.base)?;
+        started(&mut self.inner, &self.names, self.facts, file, place)
     }
 
     fn dir_prop(
         &mut self,
-        dir: &mut WireDir,
+        dir: &mut UpdateDir,
         name: &PropName,
         value: Option<&[u8]>,
     ) -> Result<(), EditorFault> {
-        self.inner.dir_prop(dir, name, value)
+        if has_already(dir_in(self.reported, &dir.path), name, value) {
+            return Ok(());
+        }
+        self.inner.dir_prop(&mut dir.wire, name, value)
     }
 
     fn file_prop(
         &mut self,
-        file: &mut WireFile,
+        file: &mut UpdateFile,
         name: &PropName,
         value: Option<&[u8]>,
     ) -> Result<(), EditorFault> {
-        self.inner.file_prop(file, name, value)
+        if has_already(file_in(self.reported, &file.path), name, value) {
+            return Ok(());
+        }
+        self.inner.file_prop(&mut file.wire, name, value)
     }
 
-    fn text_start(&mut self, file: &mut WireFile) -> Result<(), EditorFault> {
-        self.inner.text_start(file)
+    fn text_start(&mut self, file: &mut UpdateFile) -> Result<(), EditorFault> {
+        self.inner.text_start(&mut file.wire)
     }
 
-    fn text_piece(&mut self, file: &mut WireFile, piece: &[u8]) -> Result<(), EditorFault> {
-        self.inner.text_piece(file, piece)
+    fn text_piece(&mut self, file: &mut UpdateFile, piece: &[u8]) -> Result<(), EditorFault> {
+        self.inner.text_piece(&mut file.wire, piece)
     }
 
-    fn text_end(&mut self, file: &mut WireFile) -> Result<(), EditorFault> {
-        self.inner.text_end(file)
+    fn text_end(&mut self, file: &mut UpdateFile) -> Result<(), EditorFault> {
+        self.inner.text_end(&mut file.wire)
     }
 
-    fn close_file(&mut self, file: WireFile, sum: Option<[u8; 16]>) -> Result<(), EditorFault> {
-        self.inner.close_file(file, sum)
+    fn close_file(&mut self, file: UpdateFile, sum: Option<[u8; 16]>) -> Result<(), EditorFault> {
+        let UpdateFile { wire, path: _ } = file;
+        self.inner.close_file(wire, sum)
     }
 
-    fn close_dir(&mut self, dir: WireDir) -> Result<(), EditorFault> {
-        self.inner.close_dir(dir)
+    fn close_dir(&mut self, dir: UpdateDir) -> Result<(), EditorFault> {
+        let UpdateDir { wire, path: _ } = dir;
+        self.inner.close_dir(wire)
     }
 
-    fn discard_file(&mut self, file: WireFile) {
-        self.inner.discard_file(file)
+    fn discard_file(&mut self, file: UpdateFile) {
+        let UpdateFile { wire, path: _ } = file;
+        self.inner.discard_file(wire)
     }
 
-    fn discard_dir(&mut self, dir: WireDir) {
-        self.inner.discard_dir(dir)
+    fn discard_dir(&mut self, dir: UpdateDir) {
+        let UpdateDir { wire, path: _ } = dir;
+        self.inner.discard_dir(wire)
     }
 
     /// Ends it as a replay. An update ends otherwise: `into_writer` gives what was written up to its end.
@@ -349,9 +374,14 @@ impl<'a, W: Write + Drop> Editor for UpdateEditor<'a, W> {
             inner,
             names: _,
             facts,
+            reported,
         } = self;
         let out = inner.close_edit()?;
-        Ok(Ended { out, facts })
+        Ok(Ended {
+            out,
+            facts,
+            reported,
+        })
     }
 
     fn abort_edit(self) {

@@ -8,7 +8,7 @@ ghost use Rattle.node_base.specs.Tree.{IsDirAt, base};
 ghost use Rattle.node_base.specs.declared.limits.TheConstants.{REVISION};
 ghost use Rattle.ra_edit.specs.Commands.{edit_bytes};
 ghost use Rattle.ra_item.specs.Items.{spell};
-ghost use Rattle.ra_update.specs.Sent.{calls_told, end_item, IsUnsent};
+ghost use Rattle.ra_update.specs.Sent.{calls_told, end_item, newest, IsUnsent};
 ghost use Rattle.delta_editor.specs.declared.fault.EditorFault.TheVariants.{PeerFailed};
 
 use crate::editor::UpdateEditor;
@@ -21,15 +21,17 @@ use std::alloc::Global;
 use std::io;
 use std::io::Write;
 
-/// Writes the edit but for its end.
+/// Writes the edit but for its end, and but for the property calls that give what the reported tree has.
 pub fn send_changes<W: Write + Drop>(
     alloc: Global,
+    reported: &Tree,
     trees: &[Tree],
     changes: &[Change],
     facts: &Facts<'_>,
     out: W,
 ) -> Result<W, EditorFault>
     requires few { length trees.now ≤ REVISION }
+    requires newest { newest trees.now ≡ reported.now }
     requires root { IsDirAt (base trees.now) [] }
     requires normal { IsNormal changes.now }
     ensures written { IfOk result (λ w. Appends (W.contents out) (W.contents w)
@@ -40,7 +42,7 @@ pub fn send_changes<W: Write + Drop>(
     // For the proof: the calls of a drive keep the nesting, and go down.
     editor_ends::law::drive_is_nested();
     editor_ends::law::drive_goes_down();
-    let mut editor = UpdateEditor::new(alloc, facts, out)?;
+    let mut editor = UpdateEditor::new(alloc, reported, facts, out)?;
     match show_changes(alloc, trees, changes, &mut editor) {
         Ok(()) => Ok(editor.into_writer()),
         Err(fault) => {

@@ -22,7 +22,7 @@ use tree_changes::changes_between;
 
 /// Writes behind what the writer has the edit that makes the tree that is wanted of the one that was reported: a
 /// target, the calls that the changes are driven as, each with what a client wants to know beside it, and the end. What
-/// differs in the nodes' numbers alone isn't told.
+/// differs in the nodes' numbers alone isn't told, and of a node that stays neither is a property that doesn't differ.
 ///
 /// Refused: for want of memory (70), and with `PeerFailed` (49) where the writer failed. The writer is let go of then.
 pub fn send_update<W: Write + Drop>(
@@ -58,7 +58,7 @@ fn send_over<W: Write + Drop>(
     // For the proof: the root of a tree is a directory.
     has_root(trees.as_slice());
     let unflushed = Unflushed { inner: out };
-    let sent = send_changes(alloc, trees.as_slice(), changes, facts, unflushed)?;
+    let sent = send_changes(alloc, reported, trees.as_slice(), changes, facts, unflushed)?;
     ended(sent.inner)
 }
 

@@ -1,6 +1,6 @@
 //! Edits of an update, beside those of Subversion's `svnserve` of version 1.14.2.
 
-use crate::edits::{BACK, FILES, FORWARD, FRESH, ONE_FORWARD, SAME, SWITCH};
+use crate::edits::{BACK, FILES, FORWARD, FRESH, ONE_FORWARD, ONE_PROPERTY, SAME, SWITCH};
 use node_base::{NodePath, PropName, PropValue, Props, RevNo, Text};
 use path_tree::Tree;
 use ra_update::{Facts, send_update};
@@ -212,4 +212,59 @@ fn nothing_is_told_of_the_root_of_a_target(rt: HostRuntime) {
     };
     let out = send_update(alloc, &tree, &facts, Vec::new(alloc)).expect(&rt, "memory");
     assert!(rt; out.as_slice() == UNTOLD);
+}
+
+// Two properties, the second of which differs in the two trees, and one more in the older tree.
+fn props_of(rt: &impl Abort, alloc: Global, is_newer: bool) -> Props {
+    let mut props = Props::empty();
+    set_prop(rt, alloc, &mut props, b"first", b"same");
+    if is_newer {
+        set_prop(rt, alloc, &mut props, b"second", b"new");
+    } else {
+        set_prop(rt, alloc, &mut props, b"second", b"old");
+        set_prop(rt, alloc, &mut props, b"gone", b"once");
+    }
+    props
+}
+
+// A folder, a file, and what is a folder in the older tree and a file in the newer one, all with the same properties.
+fn propertied(rt: &impl Abort, alloc: Global, is_newer: bool) -> Tree {
+    let mut tree = Tree::empty(alloc).expect(rt, "memory");
+    let number = RevNo::new(if is_newer { 2 } else { 1 });
+    let dir = NodePath::parse(alloc, b"dir").expect(rt, "a path");
+    let file = NodePath::parse(alloc, b"file").expect(rt, "a path");
+    let other = NodePath::parse(alloc, b"other").expect(rt, "a path");
+    let text = text_of(rt, alloc, b"as before\n");
+    tree.put_dir(alloc, &dir, props_of(rt, alloc, is_newer), number)
+        .expect(rt, "a change");
+    tree.put_file(alloc, &file, text, props_of(rt, alloc, is_newer), number)
+        .expect(rt, "a change");
+    let props = props_of(rt, alloc, is_newer);
+    let answer = if is_newer {
+        tree.put_file(alloc, &other, text_of(rt, alloc, b""), props, number)
+    } else {
+        tree.put_dir(alloc, &other, props, number)
+    };
+    answer.expect(rt, "a change");
+    tree
+}
+
+// What stays is told what differs alone, and what comes in the place of another is told all.
+#[test]
+fn a_property_that_does_not_differ_is_not_told(rt: HostRuntime) {
+    let alloc = rt.alloc();
+    let reported = propertied(&rt, alloc, false);
+    let target = propertied(&rt, alloc, true);
+    let revisions = revisions(&rt, alloc);
+    let facts = Facts {
+        target: &target,
+        number: RevNo::new(2),
+        base: Some(RevNo::new(1)),
+        identity: b"6a1f0c3e-0000-4000-8000-0000000000a1",
+        revisions: revisions.as_slice(),
+        tells_root: false,
+        opens: false,
+    };
+    let out = send_update(alloc, &reported, &facts, Vec::new(alloc)).expect(&rt, "memory");
+    assert!(rt; out.as_slice() == ONE_PROPERTY);
 }

@@ -1,5 +1,5 @@
 //! Edits that `svnserve` sent for updates and a switch, with tokens, texts and the order of entries as they are written
-//! here.
+//! here; and one that is written by the protocol, of nodes of which one property of two differs.
 
 pub const FRESH: &[u8] =
     b"( target-rev ( 3 ) ) ( open-root ( ( 3 ) 2:t0 ) ) ( change-dir-prop ( 2:t0 \
@@ -177,3 +177,24 @@ pub const FILES: &[u8] =
     ( textdelta-chunk ( 2:t2 4:SVN\0 ) ) ( textdelta-chunk ( 2:t2 17:\0\0\x0b\x01\x0b\x8bnow a file\n ) \
     ) ( textdelta-end ( 2:t2 ) ) ( close-file ( 2:t2 ( 32:b3eb1a8045bed57b2d54b64a1c10e265 ) ) ) ( \
     close-dir ( 2:t0 ) ) ( close-edit ( ) ) ";
+
+pub const ONE_PROPERTY: &[u8] =
+    b"( target-rev ( 2 ) ) ( open-root ( ( 1 ) 2:t0 ) ) ( open-dir ( 3:dir 2:t0 2:t1 ( 1 ) ) ) ( \
+    change-dir-prop ( 2:t1 23:svn:entry:committed-rev ( 1:2 ) ) ) ( change-dir-prop ( 2:t1 \
+    24:svn:entry:committed-date ( 27:2020-01-01T00:33:20.015838Z ) ) ) ( change-dir-prop ( 2:t1 \
+    21:svn:entry:last-author ( 3:bob ) ) ) ( change-dir-prop ( 2:t1 14:svn:entry:uuid ( \
+    36:6a1f0c3e-0000-4000-8000-0000000000a1 ) ) ) ( change-dir-prop ( 2:t1 4:gone ( ) ) ) ( \
+    change-dir-prop ( 2:t1 6:second ( 3:new ) ) ) ( close-dir ( 2:t1 ) ) ( open-file ( 4:file 2:t0 2:t2 \
+    ( 1 ) ) ) ( change-file-prop ( 2:t2 23:svn:entry:committed-rev ( 1:2 ) ) ) ( change-file-prop ( \
+    2:t2 24:svn:entry:committed-date ( 27:2020-01-01T00:33:20.015838Z ) ) ) ( change-file-prop ( 2:t2 \
+    21:svn:entry:last-author ( 3:bob ) ) ) ( change-file-prop ( 2:t2 14:svn:entry:uuid ( \
+    36:6a1f0c3e-0000-4000-8000-0000000000a1 ) ) ) ( change-file-prop ( 2:t2 4:gone ( ) ) ) ( \
+    change-file-prop ( 2:t2 6:second ( 3:new ) ) ) ( close-file ( 2:t2 ( ) ) ) ( delete-entry ( 5:other \
+    ( 1 ) 2:t0 ) ) ( add-file ( 5:other 2:t0 2:t3 ( ) ) ) ( change-file-prop ( 2:t3 \
+    23:svn:entry:committed-rev ( 1:2 ) ) ) ( change-file-prop ( 2:t3 24:svn:entry:committed-date ( \
+    27:2020-01-01T00:33:20.015838Z ) ) ) ( change-file-prop ( 2:t3 21:svn:entry:last-author ( 3:bob ) ) \
+    ) ( change-file-prop ( 2:t3 14:svn:entry:uuid ( 36:6a1f0c3e-0000-4000-8000-0000000000a1 ) ) ) ( \
+    change-file-prop ( 2:t3 5:first ( 4:same ) ) ) ( change-file-prop ( 2:t3 6:second ( 3:new ) ) ) ( \
+    apply-textdelta ( 2:t3 ( ) ) ) ( textdelta-chunk ( 2:t3 4:SVN\0 ) ) ( textdelta-end ( 2:t3 ) ) ( \
+    close-file ( 2:t3 ( 32:d41d8cd98f00b204e9800998ecf8427e ) ) ) ( close-dir ( 2:t0 ) ) ( close-edit ( \
+    ) ) ";

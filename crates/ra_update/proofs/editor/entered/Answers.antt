@@ -7,5 +7,5 @@ use Rattle.ra_update.proofs.editor.entered.Goals as goal
 
 pub returns-in_default-clause-shown : goal.returns-in_default-clause-shown
 returns-in_default-clause-shown g c =
-    none_told g.W.Write.contents c.args.editor.now c.args.facts.now call.DirProp c.args.path.now
+    none_told g.W.Write.contents c.args.editor.now c.args.facts.now call.DirProp c.args.path
     (sym (c.get.ensures ∙ ap (finite.get c.args.facts.now.target.now) c.names.ensures.names) ∙ ap option_copied c.in_default.is)

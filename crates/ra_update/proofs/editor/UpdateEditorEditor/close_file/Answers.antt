@@ -5,4 +5,4 @@ use Rattle.ra_update.proofs.editor.UpdateEditorEditor.close_file.Goals as goal
 
 pub returns-clause-shown : goal.returns-clause-shown
 returns-clause-shown g c =
-    carried_ok g.W.Write.contents c.args.self.now.inner c.close_file.new.self c.args.self.now.facts.now (call.CloseFile (path_of_file c.args.file) c.args.sum) c.close_file.result c.close_file.ensures.shown
+    carried_ok g.W.Write.contents c.args.self.now.inner c.close_file.new.self c.args.self.now.facts.now c.args.self.now.reported.now (call.CloseFile (path_of_file c.args.file.wire) c.args.sum) c.close_file.result c.close_file.ensures.shown

@@ -1,9 +1,19 @@
+use Rattle.std.proofs.Common.{◌∙◌, refl, sym, ap}
 use Rattle.std.specs.Option.{option_map}
 use Rattle.delta_editor.specs.declared.call.Call.TheVariants as call
+use Rattle.ra_update.specs.Reported.{dir_in, has_already}
 use Rattle.ra_update.specs.Updated.{path_of_dir}
-use Rattle.ra_update.proofs.Nested.{carried_ok}
+use Rattle.ra_update.proofs.Nested.{carried_unless, left_out}
 use Rattle.ra_update.proofs.editor.UpdateEditorEditor.dir_prop.Goals as goal
+
+pub returns-then-has_already-clause-shown : goal.returns-then-has_already-clause-shown
+returns-then-has_already-clause-shown g c =
+    left_out g.W.Write.contents c.args.self.now.inner c.args.self.now.facts.now c.args.self.now.reported.now (call.DirProp (path_of_dir c.args.dir.now.wire) c.args.name.now (option_map (λ v. v.now) c.args.value))
+    (has_already (dir_in c.args.self.now.reported.now (path_of_dir c.args.dir.now.wire)) c.args.name.now (option_map (λ v. v.now) c.args.value)) refl
+    (sym (c.has_already.ensures ∙ ap (λ o. has_already o c.args.name.now (option_map (λ v. v.now) c.args.value)) (c.dir_in.ensures ∙ ap (dir_in c.args.self.now.reported.now) c.args.dir.now.same)) ∙ c.if-has_already.true)
 
 pub returns-clause-shown : goal.returns-clause-shown
 returns-clause-shown g c =
-    carried_ok g.W.Write.contents c.args.self.now.inner c.dir_prop.new.self c.args.self.now.facts.now (call.DirProp (path_of_dir c.args.dir.now) c.args.name.now (option_map (λ v. v.now) c.args.value)) c.dir_prop.result c.dir_prop.ensures.shown
+    carried_unless g.W.Write.contents c.args.self.now.inner c.dir_prop.new.self c.args.self.now.facts.now c.args.self.now.reported.now (call.DirProp (path_of_dir c.args.dir.now.wire) c.args.name.now (option_map (λ v. v.now) c.args.value))
+    (has_already (dir_in c.args.self.now.reported.now (path_of_dir c.args.dir.now.wire)) c.args.name.now (option_map (λ v. v.now) c.args.value)) c.dir_prop.result refl
+    (sym (c.has_already.ensures ∙ ap (λ o. has_already o c.args.name.now (option_map (λ v. v.now) c.args.value)) (c.dir_in.ensures ∙ ap (dir_in c.args.self.now.reported.now) c.args.dir.now.same)) ∙ c.if-has_already.false) c.dir_prop.ensures.shown

@@ -4,4 +4,4 @@ use Rattle.ra_update.proofs.editor.UpdateEditorEditor.target.Goals as goal
 
 pub returns-clause-shown : goal.returns-clause-shown
 returns-clause-shown g c =
-    carried_ok g.W.Write.contents c.args.self.now.inner c.target.new.self c.args.self.now.facts.now (call.Target c.args._rev) c.target.result c.target.ensures.shown
+    carried_ok g.W.Write.contents c.args.self.now.inner c.target.new.self c.args.self.now.facts.now c.args.self.now.reported.now (call.Target c.args._rev) c.target.result c.target.ensures.shown

@@ -5,4 +5,4 @@ use Rattle.ra_update.proofs.editor.UpdateEditorEditor.text_piece.Goals as goal
 
 pub returns-clause-shown : goal.returns-clause-shown
 returns-clause-shown g c =
-    carried_ok g.W.Write.contents c.args.self.now.inner c.text_piece.new.self c.args.self.now.facts.now (call.TextPiece (path_of_file c.args.file.now) c.args.piece.now) c.text_piece.result c.text_piece.ensures.shown
+    carried_ok g.W.Write.contents c.args.self.now.inner c.text_piece.new.self c.args.self.now.facts.now c.args.self.now.reported.now (call.TextPiece (path_of_file c.args.file.now.wire) c.args.piece.now) c.text_piece.result c.text_piece.ensures.shown

@@ -5,4 +5,4 @@ use Rattle.ra_update.proofs.editor.UpdateEditorEditor.text_start.Goals as goal
 
 pub returns-clause-shown : goal.returns-clause-shown
 returns-clause-shown g c =
-    carried_ok g.W.Write.contents c.args.self.now.inner c.text_start.new.self c.args.self.now.facts.now (call.TextStart (path_of_file c.args.file.now)) c.text_start.result c.text_start.ensures.shown
+    carried_ok g.W.Write.contents c.args.self.now.inner c.text_start.new.self c.args.self.now.facts.now c.args.self.now.reported.now (call.TextStart (path_of_file c.args.file.now.wire)) c.text_start.result c.text_start.ensures.shown
