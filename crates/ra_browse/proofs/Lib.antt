@@ -10,3 +10,4 @@ pub mod Located
 pub mod Logged
 pub mod LogFronts
 pub mod KeptBack
+pub mod FileVersions

@@ -34,7 +34,7 @@ touched_front : (sets : Sets) (k : ℕ) (b : Place) → b.revision < k → is_to
 touched_front sets k b h = ap (λ o. option_map_or (λ set. touches set b.path) o false) (get_front sets k b.revision h)
 
 module _ (sets : Sets) (k : ℕ) (w : Asked) where
-  asked_whole : (a b : Place) → a.revision < k → IsAsked (take k sets) w a b → IsAsked sets w a b
+  pub asked_whole : (a b : Place) → a.revision < k → IsAsked (take k sets) w a b → IsAsked sets w a b
   asked_whole a b h i =
       let l = line_before w.crosses_copies (take k sets) a b i.follows in
       record {
@@ -44,7 +44,7 @@ module _ (sets : Sets) (k : ℕ) (w : Asked) where
         to = i.to;
       }
 
-  asked_front : (a b : Place) → a.revision < k → IsAsked sets w a b → IsAsked (take k sets) w a b
+  pub asked_front : (a b : Place) → a.revision < k → IsAsked sets w a b → IsAsked (take k sets) w a b
   asked_front a b h i =
       let l = line_before w.crosses_copies sets a b i.follows in
       record {

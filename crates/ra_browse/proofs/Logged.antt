@@ -49,17 +49,17 @@ later_stops p m n d (stop.Denied w) h k = k
 later_stops p m n d (stop.Port f) h k = (k.0, rose_later p m n h k.1)
 later_stops p m n d stop.OutOfMemory h k = tt
 
-later_comes : {A : Type 0} (p m n : ℕ) (d : Option Denial) (Is : A → Type 0) (r : Result A Stop) → p ≤ m → Comes m n d Is r → Comes p n d Is r
+pub later_comes : {A : Type 0} (p m n : ℕ) (d : Option Denial) (Is : A → Type 0) (r : Result A Stop) → p ≤ m → Comes m n d Is r → Comes p n d Is r
 later_comes p m n d Is (Ok a) h c = c
 later_comes p m n d Is (Err s) h c = later_stops p m n d s h c
 
 -- the first of two denies nothing where none does
-first_calm : (d e : Option Denial) → first_of (d ∷ e ∷ []) ≡ None → d ≡ None
+pub first_calm : (d e : Option Denial) → first_of (d ∷ e ∷ []) ≡ None → d ≡ None
 first_calm None e h = refl
 first_calm (Some w) e h = h
 
 -- a call for what is there stopped
-calm_stops : (p m n : ℕ) (d e : Option Denial) (s : Stop) → p ≤ m → d ≡ None → MayStop m n d s → MayStop p n e s
+pub calm_stops : (p m n : ℕ) (d e : Option Denial) (s : Stop) → p ≤ m → d ≡ None → MayStop m n d s → MayStop p n e s
 calm_stops p m n d e s h k i = stops_later p m n s e h (subst (λ o. MayStop m n o s) k i)
 
 pub seek_comes : (x : Repository) (base : Path) (l : LogAsk) (first last p m n : ℕ) (r : Result LogSought Stop) → p ≤ m → first ≡ asked x l.start → last ≡ asked x l.end → Comes m n (logged_denied x (newer first last) (paths_below base l.paths)) (IsLogSought x (newer first last) base l (range_of first last l)) r → Comes p n (log_denied x base l) (IsLogSought x (newest_logged x l) base l (range_logged x l)) r

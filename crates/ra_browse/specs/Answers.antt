@@ -1,5 +1,5 @@
 -- What a reading client's commands are answered, by what stands in the repository and where the session stands.
-use Rattle.std.specs.Prelude.{◌≡◌, ℕ, ◌==◌, nat_le, not, ◌&&◌, is_none, is_some, Bool, true, false, List, [], ◌∷◌, ◌++◌, map, length, Option, Some, None, unwrap_or, Ok, Err, codes, if◌then◌else◌}
+use Rattle.std.specs.Prelude.{◌≡◌, ℕ, ◌==◌, nat_le, nat_lt, not, ◌&&◌, is_none, is_some, Bool, true, false, List, [], ◌∷◌, ◌++◌, map, length, Option, Some, None, unwrap_or, Ok, Err, codes, if◌then◌else◌}
 use Rattle.std.specs.Fmt.{decimal}
 use Rattle.std.specs.Option.{option_map}
 use Rattle.std.specs.Str.{bytes_eq}
@@ -35,7 +35,7 @@ use Rattle.ra_browse.specs.declared.denial.Denial.{Denial}
 use Rattle.ra_browse.specs.declared.denial.Denial.TheVariants as denial
 use Rattle.path_history.specs.Places.{place}
 use Rattle.ra_browse.specs.Denials.{denied, unless_denied}
-use Rattle.ra_browse.specs.Histories.{Found, Nothing, FindsIf, FindsLogIf, is_looked_at, newest, newest_logged, range_logged, paths_below, places_logged, listed, found_denied}
+use Rattle.ra_browse.specs.Histories.{Found, Nothing, FindsIf, FindsLogIf, FindsVersionsIf, is_looked_at, newer, newest, newest_logged, range_logged, paths_below, places_logged, listed, found_denied}
 
 -- ---- looking
 
@@ -172,6 +172,17 @@ logged_denied x n ps = first_of (no_revision x n ∷ paths_denied (tree_of x n) 
 abbrev pub log_denied : Repository → Path → LogAsk → Option Denial
 log_denied x base l = logged_denied x (newest_logged x l) (paths_below base l.paths)
 
+-- versions from a revision to an older one
+abbrev pub backward : ℕ → ℕ → Option Denial
+backward first last = fault_if (nat_lt last first) denial.Unsupported
+
+-- versions of what stands at a path of the newer of two revisions
+abbrev pub version_denied : ℕ → ℕ → Path → Option Node → Option Denial
+version_denied first last p f = first_of (backward first last ∷ place_denied p f ∷ file_denied f ∷ [])
+
+abbrev pub versions_denied : Repository → Path → ℕ → ℕ → Option Denial
+versions_denied x p first last = first_of (no_revision x (newer first last) ∷ version_denied first last p (node_in x (newer first last) p) ∷ [])
+
 -- ---- where the session stands
 
 -- the root of the client's URL, and the path below it; another URL of that root moves it
@@ -193,16 +204,16 @@ is_answered (Plain (plain.ReplayRange a b)) = false
 is_answered (Plain c) = true
 is_answered (Stat p n) = true
 is_answered (Log l) = true
+is_answered (FileRevs p start end merged) = true
 is_answered (Locations p peg ns) = true
 is_answered (Reparent url) = true
 is_answered (GetLock p) = true
 is_answered (GetLocks p d) = true
 is_answered c = false
 
--- what the others are told: not supported, but for those that a client does by logs where a server doesn't know them
+-- what the others are told: not supported, but for the one that a client does by logs where a server doesn't know it
 abbrev pub unanswered : Ask → Denial
 unanswered (Segments p peg start end) = denial.Unknown
-unanswered (FileRevs p start end merged) = denial.Unknown
 unanswered c = denial.Unsupported
 
 -- what is denied of a command where the session stands
@@ -214,6 +225,7 @@ browse_due x at (Plain (plain.RevProplist n)) = no_revision x n
 browse_due x at (Plain (plain.RevProp n name)) = no_revision x n
 browse_due x at (Stat p n) = no_revision x (asked x n)
 browse_due x at (Log l) = log_denied x at.1 l
+browse_due x at (FileRevs p start end merged) = versions_denied x (at.1 ++ p) (asked x start) (asked x end)
 browse_due x at (Locations p peg ns) = locations_denied x (at.1 ++ p) peg ns
 browse_due x at (Reparent url) = url_denied at (url_read url)
 browse_due x at c = fault_if (not (is_answered c)) (unanswered c)
@@ -228,6 +240,7 @@ browse_content x at (Plain (plain.RevProplist n)) = spell (proplist (props_at x.
 browse_content x at (Plain (plain.RevProp n name)) = spell (value (finite.get (props_at x.revisions n) name))
 browse_content x at (Stat p n) = spell (stat_told (node_in x (asked x n) (at.1 ++ p)) (made_for x (node_in x (asked x n) (at.1 ++ p))))
 browse_content x at (Log l) = spell done
+browse_content x at (FileRevs p start end merged) = spell done
 browse_content x at (Locations p peg ns) = spell done
 browse_content x at (Reparent url) = spell done
 browse_content x at (GetLock p) = spell no_locks
@@ -288,6 +301,7 @@ MayHalt (Err e) (Some f) = ⊥
 abbrev pub MayFind : Repository → Url → Ask → Option PortFault → Found → Type 0
 MayFind x at (Locations p peg ns) h found = FindsIf (is_looked_at h (locations_denied x (at.1 ++ p) peg ns)) x.sets (place peg (at.1 ++ p)) ns found
 MayFind x at (Log l) h found = FindsLogIf (is_looked_at h (log_denied x at.1 l)) x.sets (range_logged x l) (places_logged x at.1 l) found
+MayFind x at (FileRevs p start end merged) h found = FindsVersionsIf (is_looked_at h (versions_denied x (at.1 ++ p) (asked x start) (asked x end))) x.sets (place (newer (asked x start) (asked x end)) (at.1 ++ p)) (asked x start) found
 MayFind x at c h found = found ≡ Nothing
 
 abbrev pub MayHave : Repository → Url → Reading → Option PortFault → Found → Type 0

@@ -1,10 +1,12 @@
 -- What histories have, and how it is told.
-use Rattle.std.specs.Prelude.{◌≡◌, ℕ, not, Bool, true, false, nat_lt, is_none, ◌&&◌, List, [], ◌∷◌, ◌++◌, map, Option, Some, None, if◌then◌else◌}
+use Rattle.std.specs.Prelude.{◌≡◌, ℕ, not, Bool, true, false, nat_lt, is_none, ◌&&◌, List, [], ◌∷◌, ◌++◌, map, reverse, Option, Some, None, if◌then◌else◌}
 use Rattle.repo_core.specs.Repository.{Repository, trees_of}
 use Rattle.ra_item.specs.Items.{Item, row, spell, spell_all}
-use Rattle.browse_wire.specs.Asks.{Ask, Locations, Log, LogAsk}
+use Rattle.browse_wire.specs.Asks.{Ask, Locations, Log, LogAsk, FileRevs}
 use Rattle.browse_wire.specs.Told.{end_item, location_item}
+use Rattle.path_history.specs.declared.asked.Asked.{Asked}
 use Rattle.path_history.specs.declared.place.Place.{Place}
+use Rattle.path_history.specs.Histories.{IsHistory, IsTooLong}
 use Rattle.path_history.specs.Places.{Sets, place}
 use Rattle.path_history.specs.Logs as log
 use Rattle.ra_history.specs.Locations.{AreLocations, IsOneTooLong}
@@ -12,6 +14,7 @@ use Rattle.ra_history.specs.Logs.{IsTold}
 use Rattle.ra_history.specs.Rows.{props_of}
 use Rattle.ra_history.specs.declared.range.LogRange.{LogRange}
 use Rattle.ra_log.specs.Entries.{entries_told}
+use Rattle.ra_log.specs.Versions.{versions_told}
 use Rattle.node_base.specs.Path.{Path}
 use Rattle.ra_serve.specs.Answers.{asked}
 use Rattle.ra_serve.specs.declared.fault.PortFault.{PortFault}
@@ -82,6 +85,32 @@ abbrev pub FindsLogIf : Bool → Sets → LogRange → List Place → Found → 
 FindsLogIf true sets r places found = FindsLog sets r places found
 FindsLogIf false sets r places found = found ≡ Logged []
 
+-- ---- versions of a file
+
+-- of a history, newest first, the places that are newer than a revision, and the next
+abbrev pub down_to : ℕ → List Place → List Place
+down_to n [] = []
+down_to n (a ∷ s) = a ∷ (if nat_lt n a.revision then down_to n s else [])
+
+-- all revisions up to one, across copies
+abbrev pub up_to : ℕ → Asked
+up_to n = record { lowest = 0; highest = n; limit = 0; crosses_copies = true }
+
+-- where what stands at a place was changed behind a revision, oldest first, and in front of these where it was changed last before
+abbrev pub AreVersions : Sets → Place → ℕ → List Place → Type 0
+AreVersions sets a first told = (history : List Place) × IsHistory sets (up_to a.revision) a history × (told ≡ reverse (down_to first history))
+
+abbrev pub FindsVersions : Sets → Place → ℕ → Found → Type 0
+FindsVersions sets a first Nothing = ⊥
+FindsVersions sets a first (Stood places) = AreVersions sets a first places
+FindsVersions sets a first (Logged told) = ⊥
+FindsVersions sets a first PastLimits = IsTooLong true sets a
+
+-- the same where they are looked for, and none where they aren't
+abbrev pub FindsVersionsIf : Bool → Sets → Place → ℕ → Found → Type 0
+FindsVersionsIf true sets a first found = FindsVersions sets a first found
+FindsVersionsIf false sets a first found = found ≡ Stood []
+
 -- a history is looked at: nothing is denied, and the port refused nothing by itself
 abbrev pub is_looked_at : Option PortFault → Option Denial → Bool
 is_looked_at halt due = is_none halt && is_none due
@@ -106,10 +135,15 @@ numbers_of found = []
 abbrev pub entries_of : Repository → LogAsk → List ℕ → List ℕ
 entries_of x l told = entries_told l x.sets (props_of x.revisions) (trees_of x.revisions) told
 
+-- the versions of a file at some places, by what stands in the repository
+abbrev pub versions_of : Repository → List Place → List ℕ
+versions_of x places = versions_told (props_of x.revisions) (trees_of x.revisions) None places
+
 -- the items of a list, and its end, which stand before a success and a failure
 abbrev pub listed : Repository → Ask → Found → List ℕ
 listed x (Locations p peg ns) found = places_told (places_of found) ++ spell end_item
 listed x (Log l) found = entries_of x l (numbers_of found) ++ spell end_item
+listed x (FileRevs p start end merged) found = versions_of x (places_of found) ++ spell end_item
 listed x c found = []
 
 -- what is denied of a command by what was found

@@ -1,5 +1,5 @@
 -- What the calls that answer say of their port and their writer.
-use Rattle.std.specs.Prelude.{◌≡◌, ◌⊎◌, ℕ, suc, ◌++◌, take, Bool, List, [], Option, Some, None, Result, Ok, Err, if◌then◌else◌}
+use Rattle.std.specs.Prelude.{◌≡◌, ◌⊎◌, ℕ, suc, ◌++◌, take, Bool, true, List, [], Option, Some, None, Result, Ok, Err, if◌then◌else◌}
 use Rattle.std.specs.Io.KnownBytes.{Appends}
 use Rattle.fleet_disk.specs.Rules.{Rose}
 use Rattle.node_base.specs.Path.{Path}
@@ -27,14 +27,17 @@ use Rattle.ra_item.specs.Items.{spell}
 use Rattle.ra_wire.specs.Replies.{done}
 use Rattle.browse_wire.specs.Told.{end_item}
 use Rattle.path_history.specs.declared.place.Place.{Place}
+use Rattle.path_history.specs.Places.{place}
 use Rattle.ra_history.specs.Rows.{props_of}
 use Rattle.ra_history.specs.declared.range.LogRange.{LogRange}
 use Rattle.ra_log.specs.Entries.{entries_told}
+use Rattle.ra_log.specs.Versions.{versions_told}
 use Rattle.ra_log.specs.declared.rows.LogRows as declared_rows
 use Rattle.ra_browse.specs.declared.location.Sought as declared_sought
 use Rattle.ra_browse.specs.declared.log.LogSought as declared_log
+use Rattle.ra_browse.specs.declared.versions.VersionsSought as declared_versions
 use Rattle.ra_browse.specs.Denials.{denied, unless_denied}
-use Rattle.ra_browse.specs.Histories.{Found, FindsPlaces, FindsLog, newest, places_below, places_told, places_of, numbers_of, found_denied}
+use Rattle.ra_browse.specs.Histories.{Found, FindsPlaces, FindsLog, FindsVersions, newest, places_below, places_told, places_of, numbers_of, found_denied}
 use Rattle.ra_browse.specs.Answers.{Made, made_for, told, answer, MayHalt, MayFind, MayHave, IsCalm, entries_wanted, url_denied, moved_to}
 use Rattle.std.specs.Option.{option_map}
 use Rattle.std.specs.Prelude.{map}
@@ -134,6 +137,20 @@ pub record TellsLogged (l : LogAsk) (s : declared_log.LogSought) (before now : O
   pub found : Found
   pub is : FindsLog s.rows.sets.items s.range s.places.items found
   pub bytes : Appends before now ((entries_told l s.rows.sets.items s.rows.props.items s.rows.trees.items (numbers_of found) ++ spell end_item) ++ unless_denied (found_denied found) (spell done))
+
+-- ---- versions of a file
+
+-- the place of a file, from which revision on its versions are told, and what they are told by, up to that place
+pub record AreVersionsSought (x : Repository) (p : Path) (first last : ℕ) (s : declared_versions.VersionsSought) : Type 0 where
+  pub from : s.from ≡ place last p
+  pub begins : s.first ≡ first
+  pub rows : AreRows x last true s.rows
+
+-- what was found of the places, and whether it may be told, is told behind the versions there
+pub record TellsVersions (s : declared_versions.VersionsSought) (before now : Option (List ℕ)) : Type 0 where
+  pub found : Found
+  pub is : FindsVersions s.rows.sets.items s.from s.first found
+  pub bytes : Appends before now ((versions_told s.rows.props.items s.rows.trees.items None (places_of found) ++ spell end_item) ++ unless_denied (found_denied found) (spell done))
 
 -- ---- answers
 

@@ -26,6 +26,7 @@ use crate::place::reparent;
 use crate::stat::stat;
 use crate::stop::{Stop, stopped};
 use crate::told::{deny, tell};
+use crate::versions::get_file_revs;
 use browse_wire::ask::BrowseCommand;
 use browse_wire::fault::BrowseFault;
 use browse_wire::told::write_no_locks;
@@ -115,6 +116,7 @@ fn is_answered(command: &BrowseCommand) -> bool
         BrowseCommand::GetLocks(..) => true,
         BrowseCommand::GetLocations(..) => true,
         BrowseCommand::Log(_) => true,
+        BrowseCommand::GetFileRevs(..) => true,
         _ => false,
     }
 }
@@ -125,7 +127,6 @@ fn unanswered(command: &BrowseCommand) -> Denial
 {
     match command {
         BrowseCommand::GetLocationSegments(..) => Denial::Unknown,
-        BrowseCommand::GetFileRevs(..) => Denial::Unknown,
         _ => Denial::Unsupported,
     }
 }
@@ -175,7 +176,9 @@ fn reply<P: RepoPort, W: Write + Drop>(
             get_locations(alloc, port, place, path, *peg, numbers.as_slice(), out)
         }
         BrowseCommand::GetLocationSegments(..) => deny(Denial::Unknown, out),
-        BrowseCommand::GetFileRevs(..) => deny(Denial::Unknown, out),
+        BrowseCommand::GetFileRevs(path, start, end, _) => {
+            get_file_revs(alloc, port, place, path, *start, *end, out)
+        }
         BrowseCommand::Update(_) => deny(Denial::Unsupported, out),
         BrowseCommand::Switch(_) => deny(Denial::Unsupported, out),
         BrowseCommand::Status(_) => deny(Denial::Unsupported, out),

@@ -24,3 +24,4 @@ mod place;
 mod stat;
 mod stop;
 mod told;
+mod versions;

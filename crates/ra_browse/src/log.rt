@@ -34,8 +34,8 @@ use ra_wire::reply_writer::write_done;
 use std::alloc::Global;
 use std::io::{BufWriter, Write};
 
-// How many bytes of a log are kept back at most until they are written.
-const ROOM: usize = 16_384;
+/// How many bytes of a log are kept back at most until they are written.
+pub const ROOM: usize = 16_384;
 
 /// The places of which a log is told, its range, and what it looks at.
 #[derive(Drop)]
@@ -81,8 +81,8 @@ fn seek<P: RepoPort>(
     }
 }
 
-// The first and the last revision of a range.
-fn ends<P: RepoPort>(
+/// The first and the last revision of a range.
+pub fn ends<P: RepoPort>(
     port: &mut P,
     start: Option<u64>,
     end: Option<u64>,
@@ -233,8 +233,8 @@ fn with_rows<P: RepoPort>(
     }
 }
 
-// What a log looks at, up to a revision.
-fn rows_at<P: RepoPort>(
+/// What a log looks at, up to a revision.
+pub fn rows_at<P: RepoPort>(
     alloc: Global,
     port: &mut P,
     last: RevNo,
@@ -342,8 +342,8 @@ fn tell_entries<W: Write + Drop>(
     }
 }
 
-// Writes what is kept back.
-fn written<W: Write + Drop>(kept: BufWriter<W>) -> Result<W, ServeFault>
+/// Writes what is kept back.
+pub fn written<W: Write + Drop>(kept: BufWriter<W>) -> Result<W, ServeFault>
     ensures { IfOk result (λ w. Keeps (writer_contents W.contents kept) (W.contents w)) }
 {
     match kept.into_inner() {

@@ -1,3 +1,4 @@
 pub mod Standing
 pub mod Listed
 pub mod Fronts
+pub mod Versions

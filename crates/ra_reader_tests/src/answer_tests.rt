@@ -178,18 +178,14 @@ fn what_is_denied(rt: HostRuntime) {
 }
 
 // What these sessions don't answer, and what is told of it: svnserve has the first number too, since its clients fall back
-// by it, to `log` from two commands that these sessions don't know.
-const UNANSWERED: [(&[u8], &[u8]); 6] = [
+// by it, to `log` from the command that these sessions don't know.
+const UNANSWERED: [(&[u8], &[u8]); 5] = [
     (
         b"( nonsense ( ) ) ",
         b"( failure ( ( 210001 32:this server only answers readers 0: 0 ) ) ) ",
     ),
     (
         b"( get-location-segments ( 5:trunk ( 3 ) ( 3 ) ( 0 ) ) ) ",
-        b"( failure ( ( 210001 32:this server only answers readers 0: 0 ) ) ) ",
-    ),
-    (
-        b"( get-file-revs ( 12:trunk/README ( 0 ) ( 3 ) false ) ) ",
         b"( failure ( ( 210001 32:this server only answers readers 0: 0 ) ) ) ",
     ),
     (

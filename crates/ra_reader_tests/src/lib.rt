@@ -25,3 +25,5 @@ mod report_tests;
 mod sessions;
 #[cfg(test)]
 mod site;
+#[cfg(test)]
+mod version_session_tests;
