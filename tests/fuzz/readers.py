@@ -10,9 +10,9 @@ ROOTS = [b'svn://127.0.0.1:3690', b'svn://h', b'svn://H.example:1', b'svn://u@h'
 BAD_URLS = [b'', b'svn:', b'svn://', b'svn:///', b'svn:///a', b'SVN://h/a', b'svn+ssh://h/a', b'http://h/a', b'file:///a', b'/a', b'a', b'svn://h//', b'svn://h/.']
 # Each as often as it is asked for; those behind them seldom.
 COMMANDS = [b'get-latest-rev', b'rev-proplist', b'rev-prop', b'get-lock', b'get-locks']
-COMMANDS += 2 * [b'check-path'] + 4 * [b'stat', b'get-file', b'get-dir', b'get-locations', b'log'] + 2 * [b'reparent']
+COMMANDS += 2 * [b'check-path'] + 4 * [b'stat', b'get-file', b'get-dir', b'get-locations', b'log'] + 3 * [b'get-file-revs'] + 2 * [b'reparent']
 ORDERS = [b'update', b'switch', b'status', b'diff']
-DENIED = [b'get-location-segments', b'get-file-revs', b'change-rev-prop', b'change-rev-prop2', b'replay', b'replay-range']
+DENIED = [b'get-location-segments', b'change-rev-prop', b'change-rev-prop2', b'replay', b'replay-range']
 UNKNOWN = [b'commit', b'list', b'get-mergeinfo', b'get-iprops', b'lock', b'unlock', b'lock-many', b'get-deleted-rev', b'set-path', b'x']
 DEPTHS = [Word(it) for it in (b'empty', b'files', b'immediates', b'infinity', b'unknown', b'exclude')]
 FINISH = [Word(b'finish-report'), []]
@@ -133,7 +133,10 @@ class Reader(Asker):
         if name == b'get-location-segments':
             return [self.path(), *self.ranged(3)]
         if name == b'get-file-revs':
-            return self.cut([self.path(), *self.ranged(), self.flag()], 1)
+            path, end = self.placed(b'file')
+            number = end[0] if end else len(self.server.trees) - 1
+            start = self.maybe(self.number() if self.random.random() < 0.2 else self.random.randrange(number + 1))
+            return self.cut([path, start, end, self.flag()], 1)
         return super().params(name)
 
     # ---- reports
@@ -386,7 +389,8 @@ class WellBehaved(Reader):
         return self.report() if self.folders() and self.random.random() < 0.3 else [self.command()]
 
     def command(self):
-        name = self.random.choice(COMMANDS + 3 * [b'log', *self.LOCATED])
+        # (svnserve tells versions of files as other differences)
+        name = self.random.choice([it for it in COMMANDS if it != b'get-file-revs'] + 3 * [b'log', *self.LOCATED])
         if name in self.LOCATED:
             return self.located(name)
         item = [Word(name), self.params(name)]

@@ -14,7 +14,8 @@ for these things. The program's own rules stand for them:
   - a revision of 2^64 - 1 is above the head, where svnserve takes it for none;
   - a change that gives no properties where none were is told as one that gives properties, where svnserve's has none;
   - `get-locations` tells each number as often as it is asked for, and a later one where the node stood on at its path, where
-    svnserve tells a number once, and takes a node that was brought back from before the peg for the same.
+    svnserve tells a number once, and takes a node that was brought back from before the peg for the same;
+  - `get-file-revs` tells texts in windows of new data, where svnserve's are differences from the version before.
 """
 import collections
 import hashlib
@@ -22,7 +23,7 @@ import re
 from urllib.parse import unquote_to_bytes
 
 from dumps import Refused, path_of
-from sessions import AUTHORISED, DONE, PIECE, Ends, Input, Params, Server, Word, is_a, spelled, success, wanted
+from sessions import AUTHORISED, DONE, PIECE, Ends, Input, Params, Server, Word, is_a, plain_chunks, spelled, success, wanted
 from trials import TEXTS as REFUSALS
 
 GREETING = b'( success ( 2 2 ( ) ( edit-pipeline depth ) ) ) '
@@ -39,9 +40,9 @@ LATER = {'log': HAS_LOGS} | dict.fromkeys(['update', 'switch', 'status', 'diff']
 # The commands that are answered, and those that are denied where they have their form, with the number. (A client that hears
 # that a command is unknown asks for the same by `log`.)
 ANSWERED = {'get-latest-rev', 'check-path', 'get-file', 'get-dir', 'rev-proplist', 'rev-prop', 'stat', 'reparent', 'get-lock', 'get-locks',
-            'get-locations'} | {name for name, is_answered in LATER.items() if is_answered}
+            'get-locations', 'get-file-revs'} | {name for name, is_answered in LATER.items() if is_answered}
 DENIED = dict.fromkeys(['change-rev-prop', 'change-rev-prop2', 'replay', 'replay-range', *LATER], 200007)
-DENIED |= dict.fromkeys(['get-location-segments', 'get-file-revs'], 210001 if HAS_LOGS else 200007)
+DENIED |= {'get-location-segments': 210001 if HAS_LOGS else 200007}
 # Those of the latter that are answered here as svnserve does.
 READY = {'get-location-segments'}
 # Whether places of nodes are told as svnserve tells them.
@@ -313,11 +314,6 @@ class Reads(Server):
             raise Denied(200007)
         return lambda: success([])
 
-    # ---- what is denied but for its form
-
-    def at_get_file_revs(self, params):
-        return [params.path(), params.maybe(int), params.maybe(int), params.perhaps(params.bool, False)]
-
     # ---- histories
 
     def moments(self, path, number, is_strict=False):
@@ -400,6 +396,35 @@ class Reads(Server):
         elif change.action == b'change':
             old = self.gone(number, change.path)['props']
         return bool(old or change.props)
+
+    def at_get_file_revs(self, params):
+        path, start, end, _ = params.path(), params.maybe(int), params.maybe(int), params.perhaps(params.bool, False)
+
+        def answered():
+            first, last = self.number(start), self.number(end)
+            if last < first:
+                raise Denied(200007)
+            if self.node(path, last)['kind'] == b'dir':
+                raise Denied(160017)
+            found, told, old = [], b'', {'props': {}, 'text': None}
+            for at, number, _ in self.moments(self.place + path, last):
+                found.insert(0, (at, number))
+                if number <= first:
+                    break
+            for at, number in found:
+                new = self.trees[number][at]
+                told += self.version(at, number, old, new)
+                old = new
+            return told
+        return self.listed_first(answered)
+
+    def version(self, path, number, old, new):
+        """A file in a revision, as what differs from what it was before."""
+        gone = [[it, []] for it in sorted(old['props']) if it not in new['props']]
+        given = [[it, [value]] for it, value in sorted(new['props'].items()) if old['props'].get(it) != value]
+        head = [b'/' + b'/'.join(path), number, self.listed(self.props[number]), gone + given, False]
+        chunks = [] if old['text'] == new['text'] else plain_chunks(new['text'])
+        return b''.join(map(spelled, [head, *chunks, b'']))
 
     def at_get_locations(self, params):
         path, peg, numbers = params.path(), params.next(int), params.list_of(lambda it: it.next(int))

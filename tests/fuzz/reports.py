@@ -101,6 +101,9 @@ class Update(Edit):
         self.is_sparse = any(depth != b'infinity' for _, depth in report.limits)
         super().__init__([reported], changes_between(reported, goal, report.opens()), number=number, base=report.base)
 
+    def known(self, old):
+        return old
+
     def props_at(self, path, _done):
         return self.trees[0][path]['props']
 

@@ -151,8 +151,8 @@ class Params:
 
 # ---- edits
 
-def parts(change, old, token, chunks):
-    """What a change gives a node that had these properties; its text in these chunks."""
+def parts(change, old, token, chunks, known):
+    """What a change gives a node that had these properties, but for those that are known; its text in these chunks."""
     kind = change.kind
     if change.props is not None:
         name = b'change-file-prop' if kind == b'file' else b'change-dir-prop'
@@ -160,7 +160,8 @@ def parts(change, old, token, chunks):
             if it not in change.props:
                 yield command(name, token, it, [])
         for it in sorted(change.props):
-            yield command(name, token, it, [change.props[it]])
+            if known.get(it) != change.props[it]:
+                yield command(name, token, it, [change.props[it]])
     if change.text is not None:
         yield command(b'apply-textdelta', token, [])
         for chunk in chunks(change.text):
@@ -208,6 +209,10 @@ class Edit:
         """What is told of what is opened or added, beside what changes."""
         return []
 
+    def known(self, _old):
+        """Which properties aren't given, of those that a node had."""
+        return {}
+
     def props_at(self, path, done):
         """The properties of what is opened, behind the changes that are done."""
         return applied(self.trees, done)[path]['props']
@@ -253,12 +258,12 @@ class Edit:
         if kind == b'dir':
             if path:
                 self.enter(path, name, *params)
-            self.said += parts(change, old, self.open[-1][1], self.chunks)
+            self.said += parts(change, old, self.open[-1][1], self.chunks, self.known(old))
             return
         token = self.token()
         self.said.append(command(name, b'/'.join(path), self.open[-1][1], token, *params))
         self.said += self.beside(path, token, b'change-file-prop')
-        self.said += parts(change, old, token, self.chunks)
+        self.said += parts(change, old, token, self.chunks, self.known(old))
         sum = [hashlib.md5(change.text).hexdigest().encode()] if change.text is not None else []
         self.said.append(command(b'close-file', token, sum))
 
