@@ -21,8 +21,8 @@ use Rattle.browse_wire.specs.declared.ask.BrowseCommand as declared
 use Rattle.browse_wire.specs.Faults.{ReadIs}
 use Rattle.browse_wire.specs.Depths.{IsDepth, depth_in, or_files, or_empty, or_all, unless_excluded}
 use Rattle.browse_wire.specs.Fields.{IsNumber, IsText, IsTruth, IsPath, Maybe, Listed, First, OrMissing, path_of, number_of, text_of, each_in, or_missing, then_read}
-use Rattle.browse_wire.specs.Asks.{Revprops, Usual, Every, These, LogAsk, Ask, Plain, Stat, Log, Locations, Segments, FileRevs, Reparent, GetLock, GetLocks, Update, Switch, Status, Diff, IsStat, IsRevprops, IsLog, AreLocations, AreSegments, AreFileRevs, AreLocks, IsUpdate, IsSwitch, IsStatus, IsDiff, Forms, is_own_name, is_own, IsUnknown, depth_of, IsExcluded, ask_as, Judged}
-use Rattle.browse_wire.specs.AskReading.{Reading, stat_in, revprops_in, log_in, locations_in, segments_in, file_revs_in, reparent_in, get_lock_in, get_locks_in, update_in, switch_in, status_in, diff_in, named, own_in, lifted, ask_in}
+use Rattle.browse_wire.specs.Asks.{Revprops, Usual, Every, These, LogAsk, Ask, Plain, Stat, Log, Locations, Segments, FileRevs, Reparent, GetLock, GetLocks, Update, Switch, Status, Diff, DatedRev, IsStat, IsRevprops, IsLog, AreLocations, AreSegments, AreFileRevs, AreLocks, IsUpdate, IsSwitch, IsStatus, IsDiff, Forms, is_own_name, is_own, IsUnknown, depth_of, IsExcluded, ask_as, Judged}
+use Rattle.browse_wire.specs.AskReading.{Reading, stat_in, revprops_in, log_in, locations_in, segments_in, file_revs_in, reparent_in, get_lock_in, get_locks_in, update_in, switch_in, status_in, diff_in, dated_rev_in, named, own_in, lifted, ask_in}
 use Rattle.browse_wire.proofs.Placed.{Told, told_next, number_told, number_back, text_told, text_back, path_told, path_back, truth_told, truth_back, depth_told, depth_back, maybe_told, maybe_back, paths_told, paths_back, numbers_told, numbers_back, texts_told, texts_back, or_told, or_back}
 
 -- what was read is such a one
@@ -73,6 +73,10 @@ revprops_back (These names) xs f = ap revprops_in f.2 ∙ ap (option_map (λ r. 
 reparent_said : (xs zs : Items) → Said (full (codes "reparent") xs zs) (reparent_in xs)
 reparent_said xs zs =
     told_next (Said (full (codes "reparent") xs zs)) (First IsText) xs (text_in xs) (λ url a. Ok (Reparent url)) (text_told xs) tt (λ url a f. (xs, (zs, refl), (a, f)))
+
+dated_rev_said : (xs zs : Items) → Said (full (codes "get-dated-rev") xs zs) (dated_rev_in xs)
+dated_rev_said xs zs =
+    told_next (Said (full (codes "get-dated-rev") xs zs)) (First IsText) xs (text_in xs) (λ date a. Ok (DatedRev date)) (text_told xs) tt (λ date a f. (xs, (zs, refl), (a, f)))
 
 get_lock_said : (xs zs : Items) → Said (full (codes "get-lock") xs zs) (get_lock_in xs)
 get_lock_said xs zs =
@@ -190,8 +194,11 @@ none_more : (w k : List ℕ) (ks : List (List ℕ)) → bytes_eq w k ≡ false �
 none_more w k ks e f = ap (λ b. b || list_any (bytes_eq w) ks) e ∙ f
 
 -- what the names behind so many come to
+abbrev others12 : List ℕ → Items → Reading
+others12 w ps = if bytes_eq w (codes "get-dated-rev") then dated_rev_in ps else (Err fault.UnknownCommand)
+
 abbrev others11 : List ℕ → Items → Reading
-others11 w ps = if bytes_eq w (codes "diff") then diff_in ps else (Err fault.UnknownCommand)
+others11 w ps = if bytes_eq w (codes "diff") then diff_in ps else (others12 w ps)
 
 abbrev others10 : List ℕ → Items → Reading
 others10 w ps = if bytes_eq w (codes "status") then status_in ps else (others11 w ps)
@@ -236,8 +243,9 @@ named_said w ps zs own =
     name_is w (codes "update") ps zs (update_in ps) (others9 w ps) (update_said ps zs) (λ e8.
     name_is w (codes "switch") ps zs (switch_in ps) (others10 w ps) (switch_said ps zs) (λ e9.
     name_is w (codes "status") ps zs (status_in ps) (others11 w ps) (status_said ps zs) (λ e10.
-    name_is w (codes "diff") ps zs (diff_in ps) (Err fault.UnknownCommand) (diff_said ps zs) (λ e11.
-    absurd (true≢false (sym own ∙ none_more w (codes "stat") (codes "log" ∷ codes "get-locations" ∷ codes "get-location-segments" ∷ codes "get-file-revs" ∷ codes "reparent" ∷ codes "get-lock" ∷ codes "get-locks" ∷ codes "update" ∷ codes "switch" ∷ codes "status" ∷ codes "diff" ∷ []) e0 (none_more w (codes "log") (codes "get-locations" ∷ codes "get-location-segments" ∷ codes "get-file-revs" ∷ codes "reparent" ∷ codes "get-lock" ∷ codes "get-locks" ∷ codes "update" ∷ codes "switch" ∷ codes "status" ∷ codes "diff" ∷ []) e1 (none_more w (codes "get-locations") (codes "get-location-segments" ∷ codes "get-file-revs" ∷ codes "reparent" ∷ codes "get-lock" ∷ codes "get-locks" ∷ codes "update" ∷ codes "switch" ∷ codes "status" ∷ codes "diff" ∷ []) e2 (none_more w (codes "get-location-segments") (codes "get-file-revs" ∷ codes "reparent" ∷ codes "get-lock" ∷ codes "get-locks" ∷ codes "update" ∷ codes "switch" ∷ codes "status" ∷ codes "diff" ∷ []) e3 (none_more w (codes "get-file-revs") (codes "reparent" ∷ codes "get-lock" ∷ codes "get-locks" ∷ codes "update" ∷ codes "switch" ∷ codes "status" ∷ codes "diff" ∷ []) e4 (none_more w (codes "reparent") (codes "get-lock" ∷ codes "get-locks" ∷ codes "update" ∷ codes "switch" ∷ codes "status" ∷ codes "diff" ∷ []) e5 (none_more w (codes "get-lock") (codes "get-locks" ∷ codes "update" ∷ codes "switch" ∷ codes "status" ∷ codes "diff" ∷ []) e6 (none_more w (codes "get-locks") (codes "update" ∷ codes "switch" ∷ codes "status" ∷ codes "diff" ∷ []) e7 (none_more w (codes "update") (codes "switch" ∷ codes "status" ∷ codes "diff" ∷ []) e8 (none_more w (codes "switch") (codes "status" ∷ codes "diff" ∷ []) e9 (none_more w (codes "status") (codes "diff" ∷ []) e10 (none_more w (codes "diff") ([]) e11 (refl))))))))))))))))))))))))))
+    name_is w (codes "diff") ps zs (diff_in ps) (others12 w ps) (diff_said ps zs) (λ e11.
+    name_is w (codes "get-dated-rev") ps zs (dated_rev_in ps) (Err fault.UnknownCommand) (dated_rev_said ps zs) (λ e12.
+    absurd (true≢false (sym own ∙ none_more w (codes "stat") (codes "log" ∷ codes "get-locations" ∷ codes "get-location-segments" ∷ codes "get-file-revs" ∷ codes "reparent" ∷ codes "get-lock" ∷ codes "get-locks" ∷ codes "update" ∷ codes "switch" ∷ codes "status" ∷ codes "diff" ∷ codes "get-dated-rev" ∷ []) e0 (none_more w (codes "log") (codes "get-locations" ∷ codes "get-location-segments" ∷ codes "get-file-revs" ∷ codes "reparent" ∷ codes "get-lock" ∷ codes "get-locks" ∷ codes "update" ∷ codes "switch" ∷ codes "status" ∷ codes "diff" ∷ codes "get-dated-rev" ∷ []) e1 (none_more w (codes "get-locations") (codes "get-location-segments" ∷ codes "get-file-revs" ∷ codes "reparent" ∷ codes "get-lock" ∷ codes "get-locks" ∷ codes "update" ∷ codes "switch" ∷ codes "status" ∷ codes "diff" ∷ codes "get-dated-rev" ∷ []) e2 (none_more w (codes "get-location-segments") (codes "get-file-revs" ∷ codes "reparent" ∷ codes "get-lock" ∷ codes "get-locks" ∷ codes "update" ∷ codes "switch" ∷ codes "status" ∷ codes "diff" ∷ codes "get-dated-rev" ∷ []) e3 (none_more w (codes "get-file-revs") (codes "reparent" ∷ codes "get-lock" ∷ codes "get-locks" ∷ codes "update" ∷ codes "switch" ∷ codes "status" ∷ codes "diff" ∷ codes "get-dated-rev" ∷ []) e4 (none_more w (codes "reparent") (codes "get-lock" ∷ codes "get-locks" ∷ codes "update" ∷ codes "switch" ∷ codes "status" ∷ codes "diff" ∷ codes "get-dated-rev" ∷ []) e5 (none_more w (codes "get-lock") (codes "get-locks" ∷ codes "update" ∷ codes "switch" ∷ codes "status" ∷ codes "diff" ∷ codes "get-dated-rev" ∷ []) e6 (none_more w (codes "get-locks") (codes "update" ∷ codes "switch" ∷ codes "status" ∷ codes "diff" ∷ codes "get-dated-rev" ∷ []) e7 (none_more w (codes "update") (codes "switch" ∷ codes "status" ∷ codes "diff" ∷ codes "get-dated-rev" ∷ []) e8 (none_more w (codes "switch") (codes "status" ∷ codes "diff" ∷ codes "get-dated-rev" ∷ []) e9 (none_more w (codes "status") (codes "diff" ∷ codes "get-dated-rev" ∷ []) e10 (none_more w (codes "diff") (codes "get-dated-rev" ∷ []) e11 (none_more w (codes "get-dated-rev") ([]) e12 (refl))))))))))))))))))))))))))))
 
 own_said : (item : Item) → is_own item ≡ true → Said item (own_in item)
 own_said (Nested (Then (Word w) (Then (Nested ps) zs))) e = named_said w ps zs e
@@ -258,6 +266,9 @@ said item = name_if (Said item) (is_own item) (own_in item) (lifted (command_in 
 
 reparent_formed : (xs : Items) (url : List ℕ) (a : Items) → First IsText url xs a → reparent_in xs ≡ Ok (Reparent url)
 reparent_formed xs url a f = ap (λ r. then_read r (λ url a. Ok (Reparent url))) (text_back url xs a f)
+
+dated_rev_formed : (xs : Items) (date : List ℕ) (a : Items) → First IsText date xs a → dated_rev_in xs ≡ Ok (DatedRev date)
+dated_rev_formed xs date a f = ap (λ r. then_read r (λ date a. Ok (DatedRev date))) (text_back date xs a f)
 
 get_lock_formed : (xs : Items) (p : Path) (a : Items) → First IsPath p xs a → get_lock_in xs ≡ Ok (GetLock p)
 get_lock_formed xs p a f = ap (λ r. then_read r (λ p a. Ok (GetLock p))) (path_back p xs a f)
@@ -382,6 +393,7 @@ formed (Update n p d copies ignores) item f = ap ask_in f.1.1 ∙ update_formed 
 formed (Switch n p url d copies ignores) item f = ap ask_in f.1.1 ∙ switch_formed f.0 n p url d copies ignores f.2
 formed (Status n p d) item f = ap ask_in f.1.1 ∙ status_formed f.0 n p d f.2
 formed (Diff n p url d ignores texts) item f = ap ask_in f.1.1 ∙ diff_formed f.0 n p url d ignores texts f.2
+formed (DatedRev date) item f = ap ask_in f.1.1 ∙ dated_rev_formed f.0 date f.2.0 f.2.1
 
 -- ---- what is refused
 

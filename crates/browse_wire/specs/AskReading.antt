@@ -10,7 +10,7 @@ use Rattle.ra_wire.specs.declared.fault.WireFault.{WireFault}
 use Rattle.browse_wire.specs.Faults.{of_wire}
 use Rattle.browse_wire.specs.Depths.{depth_in, or_files, or_empty, or_all, unless_excluded}
 use Rattle.browse_wire.specs.Fields.{path_of, number_of, text_of, each_in, or_missing, then_read}
-use Rattle.browse_wire.specs.Asks.{Revprops, Usual, Every, These, Ask, Plain, Stat, Log, Locations, Segments, FileRevs, Reparent, GetLock, GetLocks, Update, Switch, Status, Diff, is_own}
+use Rattle.browse_wire.specs.Asks.{Revprops, Usual, Every, These, Ask, Plain, Stat, Log, Locations, Segments, FileRevs, Reparent, GetLock, GetLocks, Update, Switch, Status, Diff, DatedRev, is_own}
 use Rattle.browse_wire.specs.declared.fault.BrowseFault.{BrowseFault}
 use Rattle.browse_wire.specs.declared.fault.BrowseFault.TheVariants as fault
 
@@ -67,6 +67,9 @@ abbrev pub diff_in : Items → Reading
 diff_in xs = then_read (bracketed number_in xs) (λ n a. then_read (path_in a) (λ p b. then_read (bool_in b) (λ recurse c. then_read (bool_in c) (λ ignores d. then_read (text_in d) (λ url e.
     then_read (or_missing bool_in true e) (λ texts f. then_read (or_missing depth_in (or_files recurse) f) (λ depth g. unless_excluded depth (Diff n p url depth ignores texts))))))))
 
+abbrev pub dated_rev_in : Items → Reading
+dated_rev_in xs = then_read (text_in xs) (λ date a. Ok (DatedRev date))
+
 -- the names, and what each takes
 abbrev pub named : List ℕ → Items → Reading
 named w xs =
@@ -82,6 +85,7 @@ named w xs =
     else if bytes_eq w (codes "switch") then switch_in xs
     else if bytes_eq w (codes "status") then status_in xs
     else if bytes_eq w (codes "diff") then diff_in xs
+    else if bytes_eq w (codes "get-dated-rev") then dated_rev_in xs
     else Err fault.UnknownCommand
 
 -- a name and parameters in brackets

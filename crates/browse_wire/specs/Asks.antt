@@ -49,6 +49,7 @@ pub data Ask : Type 0 where
   Switch : Option ℕ → Path → List ℕ → DepthWord → Bool → Bool → Ask
   Status : Option ℕ → Path → DepthWord → Ask
   Diff : Option ℕ → Path → List ℕ → DepthWord → Bool → Bool → Ask
+  DatedRev : List ℕ → Ask
 
 -- ---- the parameters of each
 
@@ -120,13 +121,14 @@ Forms (Update n p d copies ignores) item = plain.Asks (codes "update") (IsUpdate
 Forms (Switch n p url d copies ignores) item = plain.Asks (codes "switch") (IsSwitch n p url d copies ignores) item
 Forms (Status n p d) item = plain.Asks (codes "status") (IsStatus n p d) item
 Forms (Diff n p url d ignores texts) item = plain.Asks (codes "diff") (IsDiff n p url d ignores texts) item
+Forms (DatedRev date) item = plain.Asks (codes "get-dated-rev") (λ xs. (a : Items) × First IsText date xs a) item
 
 -- ---- what is refused
 
 -- names beside those of `plain.names`
 abbrev pub own_names : List (List ℕ)
 own_names = codes "stat" ∷ codes "log" ∷ codes "get-locations" ∷ codes "get-location-segments" ∷ codes "get-file-revs" ∷ codes "reparent"
-    ∷ codes "get-lock" ∷ codes "get-locks" ∷ codes "update" ∷ codes "switch" ∷ codes "status" ∷ codes "diff" ∷ []
+    ∷ codes "get-lock" ∷ codes "get-locks" ∷ codes "update" ∷ codes "switch" ∷ codes "status" ∷ codes "diff" ∷ codes "get-dated-rev" ∷ []
 
 abbrev pub is_own_name : List ℕ → Bool
 is_own_name w = list_any (bytes_eq w) own_names
@@ -179,6 +181,7 @@ ask_as (coded.Update u) = Update u.revision u.target (word_of u.depth) u.copies 
 ask_as (coded.Switch s) = Switch s.revision s.target s.url.items (word_of s.depth) s.copies s.ignores_ancestry
 ask_as (coded.Status s) = Status s.revision s.target (word_of s.depth)
 ask_as (coded.Diff d) = Diff d.revision d.target d.url.items (word_of d.depth) d.ignores_ancestry d.texts
+ask_as (coded.GetDatedRev date) = DatedRev date.items
 
 -- what an item is taken for, unless memory ran out
 abbrev pub Judged : Item → Result declared.BrowseCommand BrowseFault → Type 0

@@ -10,7 +10,7 @@ ghost use Rattle.browse_wire.specs.Depths.{depth_in, word_of};
 ghost use Rattle.browse_wire.specs.Fields.{or_missing};
 ghost use Rattle.browse_wire.specs.Asks.{is_own, is_own_name, ask_as, revprops_as, Judged};
 ghost use Rattle.browse_wire.specs.AskReading.{stat_in, log_in, locations_in, segments_in, file_revs_in, reparent_in};
-ghost use Rattle.browse_wire.specs.AskReading.{get_lock_in, get_locks_in, update_in, switch_in, status_in, diff_in};
+ghost use Rattle.browse_wire.specs.AskReading.{get_lock_in, get_locks_in, update_in, switch_in, status_in, diff_in, dated_rev_in};
 ghost use Rattle.browse_wire.specs.AskReading.{named, own_in, ask_in, revprops_in, revprops_named};
 
 use crate::depth::{Depth, or_all, or_empty, or_files};
@@ -127,6 +127,8 @@ pub enum BrowseCommand {
     Status(StatusOrder),
     /// `diff`
     Diff(DiffOrder),
+    /// `get-dated-rev`: a date.
+    GetDatedRev(Vec<u8>),
 }
 
 impl BrowseCommand {
@@ -187,6 +189,7 @@ fn is_own_name(word: &[u8]) -> bool
         || word == b"switch".as_slice()
         || word == b"status".as_slice()
         || word == b"diff".as_slice()
+        || word == b"get-dated-rev".as_slice()
 }
 
 // A command of one of these names.
@@ -228,6 +231,8 @@ fn named(alloc: Global, word: &[u8], params: &mut Params) -> Result<BrowseComman
         status(alloc, params)
     } else if word == b"diff".as_slice() {
         diff(alloc, params)
+    } else if word == b"get-dated-rev".as_slice() {
+        Ok(BrowseCommand::GetDatedRev(next_text(params)?))
     } else {
         Err(BrowseFault::UnknownCommand)
     }

@@ -14,7 +14,7 @@ use Rattle.ra_wire.specs.Answers.{dirent_as}
 use Rattle.ra_wire.specs.Commands.{GetFile, GetDir}
 use Rattle.ra_wire.specs.Replies.{authorised}
 use Rattle.ra_wire.specs.declared.dirent.Dirent as declared_dirent
-use Rattle.browse_wire.specs.Asks.{Ask, Plain, Stat, Log, Locations, Segments, FileRevs, Reparent, GetLock, GetLocks, Update, Switch, Status, Diff}
+use Rattle.browse_wire.specs.Asks.{Ask, Plain, Stat, Log, Locations, Segments, FileRevs, Reparent, GetLock, GetLocks, Update, Switch, Status, Diff, DatedRev}
 use Rattle.browse_wire.specs.AskReading.{Reading}
 use Rattle.browse_wire.specs.Urls.{Url}
 use Rattle.browse_wire.specs.declared.fault.BrowseFault.{BrowseFault}
@@ -30,7 +30,7 @@ use Rattle.ra_browse.specs.declared.stop.Stop.TheVariants as stop
 use Rattle.ra_browse.specs.declared.look.Seen.{Seen}
 use Rattle.ra_browse.specs.Denials.{denied, unless_denied}
 use Rattle.ra_browse.specs.Histories.{Nothing, listed}
-use Rattle.ra_browse.specs.Answers.{no_revision, made_for, stat_told, file_told, file_denied, dir_told, dir_denied, entries_wanted, is_answered, unanswered, asks_port, browse_due, browse_content, reply, told, answer, no_ask, MayFind}
+use Rattle.ra_browse.specs.Answers.{no_revision, made_for, stat_told, file_told, file_denied, dir_told, dir_denied, entries_wanted, is_answered, unanswered, asks_port, browse_due, browse_content, reply, told, no_ask, MayFind}
 use Rattle.ra_browse.specs.Tellings.{made_as, MayStop, TellsStop, IsSeen, AreEntries, Replied, Answered, Tells, Answers}
 
 -- a command that asks for no history
@@ -159,6 +159,7 @@ asks_none x at (Update n p d copies ignores) k = refl
 asks_none x at (Switch n p url d copies ignores) k = refl
 asks_none x at (Status n p d) k = refl
 asks_none x at (Diff n p url d ignores texts) k = refl
+asks_none x at (DatedRev date) k = refl
 
 pub answers_other : {P W : Type 0} (repository : P → Option Repository) (refusals : P → ℕ) (contents : W → Option (List ℕ)) (at : Url) (c : Ask) (old : P) (out : W) (result : Result W ServeFault) (d : Denial)
     → is_answered c ≡ false

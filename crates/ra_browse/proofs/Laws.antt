@@ -6,7 +6,7 @@ use Rattle.node_base.specs.Path.{Path}
 use Rattle.node_base.specs.declared.node.Node.{Node}
 use Rattle.repo_core.specs.Repository.{Repository}
 use Rattle.ra_item.specs.Items.{spell}
-use Rattle.browse_wire.specs.Asks.{Ask, Plain, Stat, Log, Locations, Segments, FileRevs, Reparent, GetLock, GetLocks, Update, Switch, Status, Diff}
+use Rattle.browse_wire.specs.Asks.{Ask, Plain, Stat, Log, Locations, Segments, FileRevs, Reparent, GetLock, GetLocks, Update, Switch, Status, Diff, DatedRev}
 use Rattle.browse_wire.specs.AskReading.{Reading}
 use Rattle.browse_wire.specs.Urls.{Url, url_read}
 use Rattle.browse_wire.specs.declared.url.UrlFault.{UrlFault}
@@ -32,6 +32,7 @@ others_stay at (Update n p d copies ignores) h = refl
 others_stay at (Switch n p url d copies ignores) h = refl
 others_stay at (Status n p d) h = refl
 others_stay at (Diff n p url d ignores texts) h = refl
+others_stay at (DatedRev date) h = refl
 
 either_root : (at : Url) (p : Path) (b : Bool) → (if b then (at.0, p) else at).0 ≡ at.0
 either_root at p true = refl
@@ -55,6 +56,7 @@ root_kept at (Update n p d copies ignores) = refl
 root_kept at (Switch n p url d copies ignores) = refl
 root_kept at (Status n p d) = refl
 root_kept at (Diff n p url d ignores texts) = refl
+root_kept at (DatedRev date) = refl
 
 pub root_behind : (at : Url) (read : Reading) → (behind at read).0 ≡ at.0
 root_behind at (Ok c) = root_kept at c

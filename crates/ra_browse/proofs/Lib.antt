@@ -11,3 +11,4 @@ pub mod Logged
 pub mod LogFronts
 pub mod KeptBack
 pub mod FileVersions
+pub mod DatedRevs

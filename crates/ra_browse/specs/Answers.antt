@@ -19,7 +19,7 @@ use Rattle.ra_wire.specs.Answers.{Dirent}
 use Rattle.ra_wire.specs.Commands as plain
 use Rattle.ra_wire.specs.Commands.{truth_word}
 use Rattle.ra_wire.specs.Replies.{list, success, string, properties, dirent, node_kind_word, number, proplist, value, kind_is, authorised, done}
-use Rattle.browse_wire.specs.Asks.{Ask, Plain, Stat, Log, LogAsk, Locations, Segments, FileRevs, Reparent, GetLock, GetLocks}
+use Rattle.browse_wire.specs.Asks.{Ask, Plain, Stat, Log, LogAsk, Locations, Segments, FileRevs, Reparent, GetLock, GetLocks, DatedRev}
 use Rattle.browse_wire.specs.AskReading.{Reading}
 use Rattle.browse_wire.specs.Told.{no_locks}
 use Rattle.browse_wire.specs.Urls.{Url, url_read}
@@ -34,6 +34,7 @@ use Rattle.std.specs.Prelude.{Result}
 use Rattle.ra_browse.specs.declared.denial.Denial.{Denial}
 use Rattle.ra_browse.specs.declared.denial.Denial.TheVariants as denial
 use Rattle.path_history.specs.Places.{place}
+use Rattle.ra_browse.specs.Dates.{is_date, newest_by}
 use Rattle.ra_browse.specs.Denials.{denied, unless_denied}
 use Rattle.ra_browse.specs.Histories.{Found, Nothing, FindsIf, FindsLogIf, FindsVersionsIf, is_looked_at, newer, newest, newest_logged, range_logged, paths_below, places_logged, listed, found_denied}
 
@@ -183,6 +184,14 @@ version_denied first last p f = first_of (backward first last ∷ place_denied p
 abbrev pub versions_denied : Repository → Path → ℕ → ℕ → Option Denial
 versions_denied x p first last = first_of (no_revision x (newer first last) ∷ version_denied first last p (node_in x (newer first last) p) ∷ [])
 
+-- what is no date, and a repository without revisions
+abbrev pub dated_denied : Repository → List ℕ → Option Denial
+dated_denied x date = first_of (fault_if (not (is_date date)) denial.BadDate ∷ no_revision x (head_of x.revisions) ∷ [])
+
+-- the newest revision that has a date which isn't later
+abbrev pub dated : Repository → List ℕ → ℕ
+dated x date = newest_by (props_at x.revisions) date (head_of x.revisions)
+
 -- ---- where the session stands
 
 -- the root of the client's URL, and the path below it; another URL of that root moves it
@@ -209,6 +218,7 @@ is_answered (Locations p peg ns) = true
 is_answered (Reparent url) = true
 is_answered (GetLock p) = true
 is_answered (GetLocks p d) = true
+is_answered (DatedRev date) = true
 is_answered c = false
 
 -- what the others are told: not supported, but for the one that a client does by logs where a server doesn't know it
@@ -228,6 +238,7 @@ browse_due x at (Log l) = log_denied x at.1 l
 browse_due x at (FileRevs p start end merged) = versions_denied x (at.1 ++ p) (asked x start) (asked x end)
 browse_due x at (Locations p peg ns) = locations_denied x (at.1 ++ p) peg ns
 browse_due x at (Reparent url) = url_denied at (url_read url)
+browse_due x at (DatedRev date) = dated_denied x date
 browse_due x at c = fault_if (not (is_answered c)) (unanswered c)
 
 -- what it is told where nothing is, behind what was found of histories
@@ -245,6 +256,7 @@ browse_content x at (Locations p peg ns) = spell done
 browse_content x at (Reparent url) = spell done
 browse_content x at (GetLock p) = spell no_locks
 browse_content x at (GetLocks p d) = spell no_locks
+browse_content x at (DatedRev date) = spell (number (dated x date))
 browse_content x at c = []
 
 abbrev pub reply : Repository → Url → Ask → List ℕ

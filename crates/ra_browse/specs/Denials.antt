@@ -18,6 +18,7 @@ denial_number denial.Unsupported = refusal_number refusal.NotSupported
 denial_number denial.Unknown = refusal_number refusal.UnknownCommand
 denial_number denial.BadShape = 210004
 denial_number denial.BadReport = 165004
+denial_number denial.BadDate = 125003
 
 abbrev pub denial_text : Denial → List ℕ
 denial_text denial.NoRevision = refusal_text refusal.NoSuchRevision
@@ -30,6 +31,7 @@ denial_text denial.Unsupported = refusal_text refusal.NotSupported
 denial_text denial.Unknown = refusal_text refusal.UnknownCommand
 denial_text denial.BadShape = codes "bad command shape"
 denial_text denial.BadReport = codes "bad revision report"
+denial_text denial.BadDate = codes "not a date"
 
 -- as it is told
 abbrev pub denied : Denial → List ℕ

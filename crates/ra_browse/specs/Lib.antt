@@ -1,5 +1,6 @@
 pub mod Denials
 pub mod Histories
+pub mod Dates
 pub mod Answers
 pub mod Tellings
 pub mod Laws

@@ -16,6 +16,7 @@ ghost use Rattle.browse_wire.specs.Urls.{Url};
 ghost use Rattle.ra_browse.specs.Answers.{behind, is_answered, moved, unanswered};
 ghost use Rattle.ra_browse.specs.Tellings.{place_as, Answers, Tells, PortStays};
 
+use crate::dated::get_dated_rev;
 use crate::denial::Denial;
 use crate::dir::get_dir;
 use crate::file::{Wanted, get_file};
@@ -117,6 +118,7 @@ fn is_answered(command: &BrowseCommand) -> bool
         BrowseCommand::GetLocations(..) => true,
         BrowseCommand::Log(_) => true,
         BrowseCommand::GetFileRevs(..) => true,
+        BrowseCommand::GetDatedRev(_) => true,
         _ => false,
     }
 }
@@ -183,6 +185,7 @@ fn reply<P: RepoPort, W: Write + Drop>(
         BrowseCommand::Switch(_) => deny(Denial::Unsupported, out),
         BrowseCommand::Status(_) => deny(Denial::Unsupported, out),
         BrowseCommand::Diff(_) => deny(Denial::Unsupported, out),
+        BrowseCommand::GetDatedRev(date) => get_dated_rev(port, date.as_slice(), out),
     }
 }
 

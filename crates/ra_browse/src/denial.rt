@@ -28,6 +28,8 @@ pub enum Denial {
     BadShape,
     /// A report that doesn't begin with its folder, or has a path where it has no directory.
     BadReport,
+    /// A text that is no date as Subversion writes one.
+    BadDate,
 }
 
 impl Denial {
@@ -46,6 +48,7 @@ impl Denial {
             Denial::Unknown => Refusal::UnknownCommand.number(),
             Denial::BadShape => 210_004,
             Denial::BadReport => 165_004,
+            Denial::BadDate => 125_003,
         }
     }
 
@@ -64,6 +67,7 @@ impl Denial {
             Denial::Unknown => Refusal::UnknownCommand.text(),
             Denial::BadShape => b"bad command shape",
             Denial::BadReport => b"bad revision report",
+            Denial::BadDate => b"not a date",
         }
     }
 }

@@ -11,6 +11,7 @@ pub use stop::{Stop, stopped};
 pub use told::{deny, tell, write_denied};
 
 pub mod answer;
+mod dated;
 mod denial;
 mod dir;
 mod file;

@@ -17,6 +17,7 @@ const ASKS: &str = "( get-latest-rev ( ) ) = ( get-latest-rev ( ) ) plain
 ( get-file-revs ( 0: ( 0 ) ( 10 ) false ) ) = file-revs / Some(0) Some(10) false
 ( get-file-revs ( 0: ( 0 ) ( 10 ) ) ) = file-revs / Some(0) Some(10) false
 ( reparent ( 21:svn://127.0.0.1:42118 ) ) = reparent svn://127.0.0.1:42118
+( get-dated-rev ( 27:2020-01-01T00:16:40.007919Z ) ) = dated-rev 2020-01-01T00:16:40.007919Z
 ( get-lock ( 0: ) ) = lock /
 ( get-locks ( 0: ( immediates ) ) ) = locks / Some(Immediates)
 ( get-locks ( 0: ) ) = locks / Some(Infinity)
@@ -33,6 +34,8 @@ const ASKS: &str = "( get-latest-rev ( ) ) = ( get-latest-rev ( ) ) plain
 ( update ( ( 10 ) 0: true exclude false false ) ) = depth 'exclude' not supported
 ( update ( ( 10 ) 0: true deep false false ) ) = bad command shape
 ( stat ( 4:a//b ( ) ) ) = bad command shape
+( get-dated-rev ( ) ) = bad command shape
+( get-dated-rev ( 5 ) ) = bad command shape
 ( log ( ( 0: ) ( 1 ) ( 0 ) false true 0 false some ( ) ) ) = bad command shape
 stat = bad command shape";
 

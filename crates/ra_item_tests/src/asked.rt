@@ -94,6 +94,10 @@ fn show(out: &mut Vec<u8>, command: &BrowseCommand) -> io::Result<()> {
             write!(out, "reparent")?;
             show_bytes(out, url.as_slice())
         }
+        BrowseCommand::GetDatedRev(date) => {
+            write!(out, "dated-rev")?;
+            show_bytes(out, date.as_slice())
+        }
         BrowseCommand::Stat(path, n) => write!(out, "stat /{path} {n:?}"),
         BrowseCommand::GetLocationSegments(path, peg, first, last) => {
             write!(out, "segments /{path} {peg:?} {first:?} {last:?}")

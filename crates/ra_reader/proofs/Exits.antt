@@ -13,7 +13,7 @@ use Rattle.ra_wire.specs.Answers.{Failure, reply_in, refused_as}
 use Rattle.ra_wire.specs.Replies as replies
 use Rattle.ra_wire.specs.Replies.{before, authorised, done}
 use Rattle.ra_wire.specs.declared.reply.Refused as declared_reply
-use Rattle.browse_wire.specs.Asks.{Ask, Plain, Stat, Log, Locations, Segments, FileRevs, Reparent, GetLock, GetLocks, Update, Switch, Status, Diff}
+use Rattle.browse_wire.specs.Asks.{Ask, Plain, Stat, Log, Locations, Segments, FileRevs, Reparent, GetLock, GetLocks, Update, Switch, Status, Diff, DatedRev}
 use Rattle.browse_wire.specs.AskReading.{Reading, ask_in}
 use Rattle.browse_wire.specs.Reports.{Report, report_as, report_in}
 use Rattle.browse_wire.specs.declared.report.ReportCommand as declared_report
@@ -121,6 +121,7 @@ finds_none x at (Update n p d copies ignores) k = refl
 finds_none x at (Switch n p url d copies ignores) k = refl
 finds_none x at (Status n p d) k = refl
 finds_none x at (Diff n p url d ignores texts) k = refl
+finds_none x at (DatedRev date) k = absurd (true≢false (sym k))
 
 -- it is judged so before its report
 by_order : {W : Type 0} (contents : W → Option (List ℕ)) (at : Url) (c : Ask) (o : Option Denial) (item : Item) (out w : W)

@@ -8,6 +8,8 @@
 #[cfg(test)]
 mod answer_tests;
 #[cfg(test)]
+mod date_session_tests;
+#[cfg(test)]
 mod failure_tests;
 #[cfg(test)]
 mod history_session_tests;
