@@ -239,7 +239,11 @@ class Report:
             self.has_place(path)
             self.tree = placed(self.tree, path, {})
             return None
-        self.tree = placed(self.tree, path, self.source(*params))
+        # (below a target that isn't there nothing is)
+        if path and () not in self.tree:
+            self.link(*params[:2])
+        else:
+            self.tree = placed(self.tree, path, self.source(*params))
         self.limits.append((path, params[-1]))
         return None
 
@@ -284,6 +288,13 @@ class Report:
         if url is not None:
             self.links.append((path, place))
         return self.shown(found, is_empty, depth)
+
+    def link(self, path, url):
+        """A link says where what is wanted stands."""
+        if url is not None:
+            if len(self.links) == LINKS:
+                raise Denied(200007)
+            self.links.append((path, self.server.linked(url)))
 
     def has_place(self, path):
         """A path is below the folder, but for a target: nothing may be there, or something else."""

@@ -27,7 +27,7 @@ use Rattle.ra_browse.specs.declared.stop.Stop.TheVariants as stop
 use Rattle.ra_browse.specs.Answers.{no_revision, url_denied, moved_to}
 use Rattle.ra_browse.specs.Tellings.{Comes, Decides, Denies}
 use Rattle.ra_browse.proofs.Causes.{is_there}
-use Rattle.ra_report.specs.Reports.{Having, having, is_blocked, links_denied, lying, placing_denied, shown_fault, source_denied, switched, with_source, next, next_denied, error_stop}
+use Rattle.ra_report.specs.Reports.{Having, having, heeded, heeded_denied, is_blocked, is_void, links_denied, lying, placing_denied, shown_fault, source_denied, switched, with_source, next, next_denied, error_stop, voided, void_denied}
 use Rattle.ra_report.specs.Shown.{Known, brought, shown_of}
 use Rattle.ra_report.specs.declared.shown.Shown.{Shown}
 use Rattle.ra_report.specs.declared.shown.Shown.TheVariants as shown
@@ -180,3 +180,31 @@ pub taken_as : (x : Repository) (at : Url) (old new : Having) (c d : ReportComma
     → Comes k m (next_denied x at old (report_as d)) (λ _. new ≡ next x at old (report_as d)) r
     → Comes k m (next_denied x at old (report_as c)) (λ _. new ≡ next x at old (report_as c)) r
 taken_as x at old new c d k m r e h = subst (λ v. Comes k m (next_denied x at old (report_as v)) (λ _. new ≡ next x at old (report_as v)) r) (sym e) h
+
+-- ---- below a target that isn't there
+
+-- a link says where what is wanted stands
+pub passed_link : (d e : Option Denial) (ss now : List Switched) (s t : Switched) (result : Result (Unit {0}) Stop) → d ≡ None → e ≡ None → s ≡ t → Decides None (λ _. now ≡ ss ++ s ∷ []) result
+    → Decides (option_or d e) (λ _. now ≡ ss ++ t ∷ []) result
+passed_link d e ss now s t (Ok u) h k i a = (ap (λ o. option_or o e) h ∙ k, a.1 ∙ ap (λ v. ss ++ v ∷ []) i)
+passed_link d e ss now s t (Err (stop.Denied w)) h k i a = absurd cc
+passed_link d e ss now s t (Err (stop.Port f)) h k i a = absurd a
+passed_link d e ss now s t (Err stop.OutOfMemory) h k i a = tt
+
+pub passed_over : (x : Repository) (at : Url) (t : Path) (known : Known) (ss now : List Switched) (c : ReportCommand) (k : ℕ) (result : Result (Unit {0}) Stop) → is_void t known (report_as c) ≡ true
+    → Decides (void_denied at ss (report_as c)) (λ _. now ≡ voided at ss (report_as c)) result
+    → Comes k k (heeded_denied x at t (having known ss) (report_as c)) (λ _. having known now ≡ heeded x at t (having known ss) (report_as c)) result
+passed_over x at t known ss now c k result e d =
+    let h = having known ss in
+    subst (λ b. Comes k k (cond b (void_denied at ss (report_as c)) (next_denied x at h (report_as c))) (λ _. having known now ≡ cond b (having known (voided at ss (report_as c))) (next x at h (report_as c))) result) (sym e)
+    (
+    comes_as k k (void_denied at ss (report_as c)) (λ _. now ≡ voided at ss (report_as c)) (λ _. having known now ≡ having known (voided at ss (report_as c))) result (λ u i. ap (having known) i)
+    (decides_comes k k (void_denied at ss (report_as c)) (λ _. now ≡ voided at ss (report_as c)) result d)
+    )
+
+-- another command counts
+pub heeded_as : (x : Repository) (at : Url) (t : Path) (h new : Having) (c : ReportCommand) (k m : ℕ) (result : Result (Unit {0}) Stop) → is_void t h.known (report_as c) ≡ false
+    → Comes k m (next_denied x at h (report_as c)) (λ _. new ≡ next x at h (report_as c)) result
+    → Comes k m (heeded_denied x at t h (report_as c)) (λ _. new ≡ heeded x at t h (report_as c)) result
+heeded_as x at t h new c k m result e d =
+    subst (λ b. Comes k m (cond b (void_denied at h.switches (report_as c)) (next_denied x at h (report_as c))) (λ _. new ≡ cond b (having h.known (voided at h.switches (report_as c))) (next x at h (report_as c))) result) (sym e) d

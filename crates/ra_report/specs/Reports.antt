@@ -1,5 +1,5 @@
 -- What a working copy reports that it has, command by command. The nodes' numbers don't count.
-use Rattle.std.specs.Prelude.{ℕ, Bool, true, false, not, List, [], ◌∷◌, ◌++◌, map, length, nat_lt, Option, Some, None, is_some, is_none, if◌then◌else◌}
+use Rattle.std.specs.Prelude.{ℕ, Bool, true, false, not, ◌&&◌, List, [], ◌∷◌, ◌++◌, map, length, nat_lt, Option, Some, None, is_some, is_none, if◌then◌else◌}
 use Rattle.std.specs.Option.{option_map_or, option_or}
 use Rattle.std.specs.FinMap as finite
 use Rattle.node_base.specs.Limits.{fits}
@@ -155,24 +155,53 @@ abbrev pub aims_denied : Path → List Report → Option Denial
 aims_denied t [] = None
 aims_denied t (c ∷ cs) = option_or (aim_denied t c) (aims_denied t cs)
 
+-- ---- below a target
+
+-- the path is below the target, which isn't there
+abbrev pub is_beneath : Path → Known → Path → Bool
+is_beneath t k p = is_none (k t) && not (same_path p t)
+
+-- it sets or links such a path
+abbrev pub is_void : Path → Known → Report → Bool
+is_void t k (SetPath r) = is_beneath t k r.path
+is_void t k (LinkPath r url) = is_beneath t k r.path
+is_void t k (DeletePath p) = false
+is_void t k FinishReport = false
+is_void t k AbortReport = false
+
+-- nothing is there then; a link says where what is wanted stands, where a folder is wanted above it
+abbrev pub void_denied : Url → List Switched → Report → Option Denial
+void_denied at ss (LinkPath r url) = option_or (links_denied ss) (url_denied at (url_read url))
+void_denied at ss c = None
+
+abbrev pub voided : Url → List Switched → Report → List Switched
+voided at ss (LinkPath r url) = ss ++ switched r.path (moved_to at (url_read url)).1 ∷ []
+voided at ss c = ss
+
+abbrev pub heeded_denied : Repository → Url → Path → Having → Report → Option Denial
+heeded_denied x at t h c = if is_void t h.known c then void_denied at h.switches c else next_denied x at h c
+
+abbrev pub heeded : Repository → Url → Path → Having → Report → Having
+heeded x at t h c = if is_void t h.known c then having h.known (voided at h.switches c) else next x at h c
+
 -- ---- all of them
 
-abbrev pub later_denied : Repository → Url → Having → List Report → Option Denial
-later_denied x at h [] = None
-later_denied x at h (c ∷ cs) = option_or (next_denied x at h c) (later_denied x at (next x at h c) cs)
+abbrev pub later_denied : Repository → Url → Path → Having → List Report → Option Denial
+later_denied x at t h [] = None
+later_denied x at t h (c ∷ cs) = option_or (heeded_denied x at t h c) (later_denied x at t (heeded x at t h c) cs)
 
-abbrev pub later : Repository → Url → Having → List Report → Having
-later x at h [] = h
-later x at h (c ∷ cs) = later x at (next x at h c) cs
+abbrev pub later : Repository → Url → Path → Having → List Report → Having
+later x at t h [] = h
+later x at t h (c ∷ cs) = later x at t (heeded x at t h c) cs
 
 -- of commands with their paths behind a target
 abbrev pub whole_denied : Repository → Url → Path → List Report → Option Denial
 whole_denied x at t [] = Some denial.BadReport
-whole_denied x at t (c ∷ cs) = option_or (begin_denied x at t c) (later_denied x at (having (begin_known x at t c) []) cs)
+whole_denied x at t (c ∷ cs) = option_or (begin_denied x at t c) (later_denied x at t (having (begin_known x at t c) []) cs)
 
 abbrev pub whole : Repository → Url → Path → List Report → Having
 whole x at t [] = having (λ _. None) []
-whole x at t (c ∷ cs) = later x at (having (begin_known x at t c) []) cs
+whole x at t (c ∷ cs) = later x at t (having (begin_known x at t c) []) cs
 
 -- why a report isn't taken
 abbrev pub reports_denied : Repository → Url → Path → List Report → Option Denial

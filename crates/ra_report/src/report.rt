@@ -23,7 +23,7 @@ use crate::folder::tree_within;
 use crate::plan::WorkingCopy;
 use crate::shown::{Shown, shown_of};
 use crate::switched::Switched;
-use crate::take::{bring_from, path_in, take};
+use crate::take::{bring_from, heed, path_in};
 use browse_wire::report::{ReportCommand, Reported};
 use browse_wire::url::SessionUrl;
 use node_base::{NodePath, RevNo};
@@ -71,7 +71,7 @@ fn whole<P: RepoPort>(
         return Err(Stop::Denied(Denial::BadReport));
     };
     match begun(alloc, port, place, target, first) {
-        Ok(copy) => go_on(alloc, port, place, copy, rest),
+        Ok(copy) => go_on(alloc, port, place, target, copy, rest),
         Err(stop) => Err(stop),
     }
 }
@@ -284,12 +284,13 @@ fn go_on<P: RepoPort>(
     alloc: Global,
     port: &mut P,
     place: &SessionUrl,
+    target: &NodePath,
     copy: WorkingCopy,
     rest: &[ReportCommand],
 ) -> Result<WorkingCopy, Stop>
     ensures found { Finds P.RepoPort
-        (λ x. later_denied x (place_as place.now) (having (content_at copy.report) copy.switches.items) (map report_as rest.now))
-        (λ x c. IsCopy (later x (place_as place.now) (having (content_at copy.report) copy.switches.items)
+        (λ x. later_denied x (place_as place.now) target.now (having (content_at copy.report) copy.switches.items) (map report_as rest.now))
+        (λ x c. IsCopy (later x (place_as place.now) target.now (having (content_at copy.report) copy.switches.items)
         (map report_as rest.now)) (Some copy.base) c) port.old port.new result }
     ensures stays { PortStays P.RepoPort port.old port.new }
 {
@@ -300,7 +301,7 @@ fn go_on<P: RepoPort>(
     } = copy;
     let mut report = report;
     let mut switches = switches;
-    match take_all(alloc, port, place, &mut report, &mut switches, rest) {
+    match take_all(alloc, port, place, target, &mut report, &mut switches, rest) {
         Ok(()) => Ok(WorkingCopy {
             report,
             switches,
@@ -315,19 +316,20 @@ fn take_all<P: RepoPort>(
     alloc: Global,
     port: &mut P,
     place: &SessionUrl,
+    target: &NodePath,
     report: &mut Report,
     switches: &mut Vec<Switched>,
     rest: &[ReportCommand],
 ) -> Result<(), Stop>
     ensures found { Finds P.RepoPort
-        (λ x. later_denied x (place_as place.now) (having (content_at report.old) switches.old.items) (map report_as rest.now))
+        (λ x. later_denied x (place_as place.now) target.now (having (content_at report.old) switches.old.items) (map report_as rest.now))
         (λ x _. having (content_at report.new) switches.new.items
-        ≡ later x (place_as place.now) (having (content_at report.old) switches.old.items) (map report_as rest.now))
+        ≡ later x (place_as place.now) target.now (having (content_at report.old) switches.old.items) (map report_as rest.now))
         port.old port.new result }
     ensures stays { PortStays P.RepoPort port.old port.new }
 {
     for command in rest {
-        match take(alloc, port, place, report, switches, command) {
+        match heed(alloc, port, place, target, report, switches, command) {
             Ok(()) => {}
             Err(stop) => return Err(stop),
         }

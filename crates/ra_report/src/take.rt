@@ -1,7 +1,10 @@
 //! One command of a report behind its first.
 
 ghost use Rattle.std.specs.Prelude.{◌≡◌, ◌++◌, [], ◌∷◌, not, None, OnOk};
+ghost use Rattle.std.specs.Option.{option_or};
 ghost use Rattle.dump_load.specs.Faults.{fault_if};
+ghost use Rattle.browse_wire.specs.Urls.{url_read};
+ghost use Rattle.ra_browse.specs.Answers.{moved_to, url_denied};
 ghost use Rattle.node_base.specs.Limits.{fits};
 ghost use Rattle.node_base.specs.Path.{Path, same_path};
 ghost use Rattle.tree_reports.specs.Reports.{Answers, content_at, placed};
@@ -10,6 +13,7 @@ ghost use Rattle.ra_browse.specs.Tellings.{place_as, Decides, Finds, PortStays};
 ghost use Rattle.ra_browse.specs.declared.denial.Denial.TheVariants.{BadReport, NoPath};
 ghost use Rattle.ra_report.specs.Reports.{links_denied, placing_denied, shown_fault, source_denied, with_source, error_stop};
 ghost use Rattle.ra_report.specs.Reports.{having, next, next_denied, switched};
+ghost use Rattle.ra_report.specs.Reports.{heeded, heeded_denied, is_beneath, is_void, voided, void_denied};
 ghost use Rattle.ra_report.specs.Shown.{brought};
 
 use crate::order::path_at;
@@ -28,8 +32,91 @@ use tree_reports::{Report, ReportError};
 /// The most paths that a working copy may have switched.
 const MOST_LINKS: usize = 1024;
 
-/// Takes a command.
-pub fn take<P: RepoPort>(
+/// Takes a command of the folder, or of a target in it. Below a target that isn't there nothing is, whatever is set or
+/// linked: `svn diff -r N` of a path that was copied in the working copy alone links its own name there.
+pub fn heed<P: RepoPort>(
+    alloc: Global,
+    port: &mut P,
+    place: &SessionUrl,
+    target: &NodePath,
+    report: &mut Report,
+    switches: &mut Vec<Switched>,
+    command: &ReportCommand,
+) -> Result<(), Stop>
+    ensures found { Finds P.RepoPort
+        (λ x. heeded_denied x (place_as place.now) target.now (having (content_at report.old) switches.old.items) (report_as command.now))
+        (λ x _. having (content_at report.new) switches.new.items
+        ≡ heeded x (place_as place.now) target.now (having (content_at report.old) switches.old.items) (report_as command.now))
+        port.old port.new result }
+    ensures stays { PortStays P.RepoPort port.old port.new }
+{
+    if is_void(report, target, command) {
+        return pass_over(alloc, place, switches, command);
+    }
+    take(alloc, port, place, report, switches, command)
+}
+
+// Takes of a command that sets or links a path there where a link leads.
+fn pass_over(
+    alloc: Global,
+    place: &SessionUrl,
+    switches: &mut Vec<Switched>,
+    command: &ReportCommand,
+) -> Result<(), Stop>
+    ensures { Decides (void_denied (place_as place.now) switches.old.items (report_as command.now))
+        (λ _. switches.new.items ≡ voided (place_as place.now) switches.old.items (report_as command.now)) result }
+{
+    match command {
+        ReportCommand::LinkPath(path, url) => {
+            pass_link(alloc, place, switches, &path.path, url.as_slice())
+        }
+        _ => Ok(()),
+    }
+}
+
+// The same of a link.
+fn pass_link(
+    alloc: Global,
+    place: &SessionUrl,
+    switches: &mut Vec<Switched>,
+    path: &NodePath,
+    url: &[u8],
+) -> Result<(), Stop>
+    ensures { Decides (option_or (links_denied switches.old.items) (url_denied (place_as place.now) (url_read url.now)))
+        (λ _. switches.new.items ≡ switches.old.items ++ switched path.now (moved_to (place_as place.now) (url_read url.now)).1 ∷ [])
+        result }
+{
+    if let Some(why) = links_denied(switches.as_slice()) {
+        return Err(Stop::Denied(why));
+    }
+    match path_at(alloc, place, url) {
+        Ok(source) => push_switched(alloc, switches, path, source),
+        Err(stop) => Err(stop),
+    }
+}
+
+// Whether a command sets or links a path below a target that isn't there.
+fn is_void(report: &Report, target: &NodePath, command: &ReportCommand) -> bool
+    ensures { result ≡ is_void target.now (content_at report.now) (report_as command.now) }
+{
+    match command {
+        ReportCommand::SetPath(path) => is_beneath(report, target, &path.path),
+        ReportCommand::LinkPath(path, _) => is_beneath(report, target, &path.path),
+        ReportCommand::DeletePath(_) => false,
+        ReportCommand::FinishReport => false,
+        ReportCommand::AbortReport => false,
+    }
+}
+
+// Whether a path is below a target that isn't there.
+fn is_beneath(report: &Report, target: &NodePath, path: &NodePath) -> bool
+    ensures { result ≡ is_beneath target.now (content_at report.now) path.now }
+{
+    report.tree().get(target.names()).is_none() && !path.compare(target).is_eq()
+}
+
+// The same of one that counts.
+fn take<P: RepoPort>(
     alloc: Global,
     port: &mut P,
     place: &SessionUrl,

@@ -23,7 +23,7 @@ const OTHER_ROOT: &[u8] = b"( failure ( ( 170000 23:not the same repository 0: 0
 const NEWEST: &[u8] = b"( update ( ( ) 0: true ) )";
 
 // Where a session stands, what it asks and reports, and what it is told.
-const ROWS: [(&[u8], &[u8], &[u8], &[u8]); 29] = [
+const ROWS: [(&[u8], &[u8], &[u8], &[u8]); 30] = [
     (
         b"svn://h",
         b"( update ( ( 4 ) 0: true ) )",
@@ -123,6 +123,19 @@ const ROWS: [(&[u8], &[u8], &[u8], &[u8]); 29] = [
         b"( set-path ( 0: 3 false ) ) ( set-path ( 16:trunk/README/new 3 false ( ) exclude ) ) ",
         BAD_REPORT,
     ),
+    // a target that is there has no such folder, or is a file
+    (
+        b"svn://h",
+        b"( update ( ( ) 5:trunk true ) )",
+        b"( set-path ( 0: 3 false ) ) ( set-path ( 7:none/at 3 false ) ) ",
+        BAD_REPORT,
+    ),
+    (
+        b"svn://h/trunk",
+        b"( update ( ( ) 6:README true ) )",
+        b"( set-path ( 0: 3 false ) ) ( set-path ( 2:at 3 false ) ) ",
+        BAD_REPORT,
+    ),
     (
         b"svn://h",
         b"( update ( ( ) 9:trunk/lib true ) )",
@@ -166,13 +179,7 @@ const ROWS: [(&[u8], &[u8], &[u8], &[u8]); 29] = [
         b"( set-path ( 0: 4 false ) ) ( delete-path ( 0: ) ) ",
         NO_REVISION,
     ),
-    // of a target of which nothing is there, nothing else is reported
-    (
-        b"svn://h/trunk",
-        b"( update ( ( ) 3:new true ) )",
-        b"( set-path ( 0: 1 false ) ) ( set-path ( 1:f 3 false ) ) ",
-        BAD_REPORT,
-    ),
+    // a target that is there is set to a revision in which nothing is there
     (
         b"svn://h/trunk",
         b"( update ( ( ) 3:new true ) )",

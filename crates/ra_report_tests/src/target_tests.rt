@@ -51,8 +51,37 @@ const MIXED: &[u8] =
     4:SVN\0 ) ) ( textdelta-end ( 2:t4 ) ) ( close-file ( 2:t4 ( 32:d41d8cd98f00b204e9800998ecf8427e ) ) ) ( \
     close-dir ( 2:t3 ) ) ( close-dir ( 2:t1 ) ) ( close-dir ( 2:t0 ) ) ( close-edit ( ) ) ";
 
-// Where a session stands, what it asks and reports, and the edit.
-const ROWS: [(&[u8], &[u8], &[u8], &[u8]); 6] = [
+// A file that isn't there yet.
+const ADDED: &[u8] =
+    b"( target-rev ( 1 ) ) ( open-root ( ( 0 ) 2:t0 ) ) ( add-file ( 1:b 2:t0 2:t1 ( ) ) ) ( change-file-prop ( \
+    2:t1 23:svn:entry:committed-rev ( 1:1 ) ) ) ( change-file-prop ( 2:t1 24:svn:entry:committed-date ( \
+    27:2020-01-01T00:16:40.007919Z ) ) ) ( change-file-prop ( 2:t1 21:svn:entry:last-author ( 5:alice ) ) ) ( \
+    change-file-prop ( 2:t1 14:svn:entry:uuid ( 36:6a1f0c3e-0000-4000-8000-0000000000a1 ) ) ) ( \
+    apply-textdelta ( 2:t1 ( ) ) ) ( textdelta-chunk ( 2:t1 4:SVN\0 ) ) ( textdelta-chunk ( 2:t1 \
+    12:\0\0\x06\x01\x06\x86hello\n ) ) ( textdelta-end ( 2:t1 ) ) ( close-file ( 2:t1 ( \
+    32:b1946ac92492d2347c6235b4d2611184 ) ) ) ( close-dir ( 2:t0 ) ) ( close-edit ( ) ) ";
+
+// The same where the folder is there.
+const ADDED_BEHIND: &[u8] =
+    b"( target-rev ( 1 ) ) ( open-root ( ( 2 ) 2:t0 ) ) ( add-file ( 1:b 2:t0 2:t1 ( ) ) ) ( change-file-prop ( \
+    2:t1 23:svn:entry:committed-rev ( 1:1 ) ) ) ( change-file-prop ( 2:t1 24:svn:entry:committed-date ( \
+    27:2020-01-01T00:16:40.007919Z ) ) ) ( change-file-prop ( 2:t1 21:svn:entry:last-author ( 5:alice ) ) ) ( \
+    change-file-prop ( 2:t1 14:svn:entry:uuid ( 36:6a1f0c3e-0000-4000-8000-0000000000a1 ) ) ) ( \
+    apply-textdelta ( 2:t1 ( ) ) ) ( textdelta-chunk ( 2:t1 4:SVN\0 ) ) ( textdelta-chunk ( 2:t1 \
+    12:\0\0\x06\x01\x06\x86hello\n ) ) ( textdelta-end ( 2:t1 ) ) ( close-file ( 2:t1 ( \
+    32:b1946ac92492d2347c6235b4d2611184 ) ) ) ( close-dir ( 2:t0 ) ) ( close-edit ( ) ) ";
+
+// A folder that isn't there yet.
+const MADE: &[u8] =
+    b"( target-rev ( 1 ) ) ( open-root ( ( 0 ) 2:t0 ) ) ( add-dir ( 1:d 2:t0 2:t1 ( ) ) ) ( change-dir-prop ( \
+    2:t1 23:svn:entry:committed-rev ( 1:1 ) ) ) ( change-dir-prop ( 2:t1 24:svn:entry:committed-date ( \
+    27:2020-01-01T00:16:40.007919Z ) ) ) ( change-dir-prop ( 2:t1 21:svn:entry:last-author ( 5:alice ) ) ) ( \
+    change-dir-prop ( 2:t1 14:svn:entry:uuid ( 36:6a1f0c3e-0000-4000-8000-0000000000a1 ) ) ) ( close-dir ( \
+    2:t1 ) ) ( close-dir ( 2:t0 ) ) ( close-edit ( ) ) ";
+
+// Where a session stands, what it asks and reports, and the edit. Below a target that isn't there nothing counts that is
+// set or linked: a client's `diff` of a path that was copied in its working copy alone links the target's own name.
+const ROWS: [(&[u8], &[u8], &[u8], &[u8]); 10] = [
     (
         b"svn://h/trunk",
         b"( update ( ( 3 ) 3:lib true unknown false false ) )",
@@ -88,6 +117,30 @@ const ROWS: [(&[u8], &[u8], &[u8], &[u8]); 6] = [
         b"( switch ( ( 3 ) 5:trunk true 13:svn://h/trunk unknown false true ) )",
         b"( set-path ( 0: 3 false ) ) ( link-path ( 3:lib 17:svn://h/trunk/lib 2 false ) ) ( delete-path ( 5:new/f ) ) ",
         MIXED,
+    ),
+    (
+        b"svn://h/trunk",
+        b"( diff ( ( 1 ) 1:b true true 20:svn://h/trunk/README true unknown ) )",
+        b"( set-path ( 0: 0 false ( ) infinity ) ) ( link-path ( 1:b 20:svn://h/trunk/README 0 false ( ) infinity ) ) ",
+        ADDED,
+    ),
+    (
+        b"svn://h/trunk",
+        b"( diff ( ( 1 ) 1:b true true 20:svn://h/trunk/README true unknown ) )",
+        b"( set-path ( 0: 2 false ( ) infinity ) ) ( set-path ( 5:f/g/h 9 false ( ) infinity ) ) ",
+        ADDED_BEHIND,
+    ),
+    (
+        b"svn://h",
+        b"( diff ( ( 1 ) 1:d true true 12:svn://h/tags true unknown ) )",
+        b"( set-path ( 0: 0 false ( ) infinity ) ) ( set-path ( 1:x 1 false ( ) infinity ) ) ( delete-path ( 1:y ) ) ",
+        MADE,
+    ),
+    (
+        b"svn://h",
+        b"( switch ( ( 1 ) 1:d true 12:svn://h/tags infinity false true ) )",
+        b"( set-path ( 0: 0 false ) ) ( link-path ( 1:x 13:svn://h/trunk 0 false ) ) ( set-path ( 3:x/y 1 false ) ) ",
+        MADE,
     ),
 ];
 

@@ -9,6 +9,6 @@ use Rattle.ra_report.proofs.report.take_all.Given as goal
 
 abbrev pub invariant-loop-command : goal.invariant-loop-command
 invariant-loop-command g l = record {
-  left : (x : Repository) → g.P.RepoPort.repository l.fn.port ≡ Some x → IsLeft x (place_as l.place) (having (content_at l.report) l.switches.items) (map report_as (drop l.command-index l.rest)) (having (content_at l.fn.report) l.fn.switches.items) (map report_as l.rest);
+  left : (x : Repository) → g.P.RepoPort.repository l.fn.port ≡ Some x → IsLeft x (place_as l.place) l.target (having (content_at l.report) l.switches.items) (map report_as (drop l.command-index l.rest)) (having (content_at l.fn.report) l.fn.switches.items) (map report_as l.rest);
   stays : PortStays g.P.RepoPort l.fn.port l.port;
 }
