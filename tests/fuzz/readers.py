@@ -4,13 +4,14 @@ from urllib.parse import quote_from_bytes
 
 from asked import ANONYMOUS, Asker, sent
 from made import NAMES, ODD_NAMES, PROPS
+from reads import NOWHEN
 from sessions import Word
 
 ROOTS = [b'svn://127.0.0.1:3690', b'svn://h', b'svn://H.example:1', b'svn://u@h', b'svn://[::1]:2', b'svn://h?x']
 BAD_URLS = [b'', b'svn:', b'svn://', b'svn:///', b'svn:///a', b'SVN://h/a', b'svn+ssh://h/a', b'http://h/a', b'file:///a', b'/a', b'a', b'svn://h//', b'svn://h/.']
 # Each as often as it is asked for; those behind them seldom.
 COMMANDS = [b'get-latest-rev', b'rev-proplist', b'rev-prop', b'get-lock', b'get-locks']
-COMMANDS += 2 * [b'check-path'] + 4 * [b'stat', b'get-file', b'get-dir', b'get-locations', b'log'] + 3 * [b'get-file-revs'] + 2 * [b'reparent']
+COMMANDS += 2 * [b'check-path'] + 4 * [b'stat', b'get-file', b'get-dir', b'get-locations', b'log'] + 3 * [b'get-file-revs'] + 2 * [b'reparent', b'get-dated-rev']
 ORDERS = [b'update', b'switch', b'status', b'diff']
 DENIED = [b'get-location-segments', b'change-rev-prop', b'change-rev-prop2', b'replay', b'replay-range']
 UNKNOWN = [b'commit', b'list', b'get-mergeinfo', b'get-iprops', b'lock', b'unlock', b'lock-many', b'get-deleted-rev', b'set-path', b'x']
@@ -97,6 +98,15 @@ class Reader(Asker):
     def depth(self):
         return self.random.choice(DEPTHS)
 
+    def date(self):
+        """A date at or beside that of some revision, mostly."""
+        random = self.random
+        found = random.choice([it[b'svn:date'] for it in self.server.props if b'svn:date' in it] or [NOWHEN])
+        if random.random() < 0.5:
+            at = random.randrange(len(found) + 1)
+            found = found[:at] + random.choice([b'', b'0', b'9', b'-', b'Z']) + found[at + random.randrange(3):]
+        return found
+
     def cut(self, params, count):
         """Parameters as an older client sends them, which knows so many of the last ones not."""
         return params[:len(params) - self.random.randrange(count + 1)]
@@ -110,6 +120,8 @@ class Reader(Asker):
             return self.placed()
         if name == b'reparent':
             return [self.moved()]
+        if name == b'get-dated-rev':
+            return [self.date()]
         if name == b'get-lock':
             return [self.path()]
         if name == b'get-locks':
@@ -389,8 +401,8 @@ class WellBehaved(Reader):
         return self.report() if self.folders() and self.random.random() < 0.3 else [self.command()]
 
     def command(self):
-        # (svnserve tells versions of files as other differences)
-        name = self.random.choice([it for it in COMMANDS if it != b'get-file-revs'] + 3 * [b'log', *self.LOCATED])
+        # (svnserve tells versions of files as other differences, and finds dates by halves)
+        name = self.random.choice([it for it in COMMANDS if it not in (b'get-file-revs', b'get-dated-rev')] + 3 * [b'log', *self.LOCATED])
         if name in self.LOCATED:
             return self.located(name)
         item = [Word(name), self.params(name)]

@@ -15,6 +15,8 @@ for these things. The program's own rules stand for them:
   - a change that gives no properties where none were is told as one that gives properties, where svnserve's has none;
   - `get-locations` tells each number as often as it is asked for, and a later one where the node stood on at its path, where
     svnserve tells a number once, and takes a node that was brought back from before the peg for the same;
+  - a date names the newest revision that has one which isn't later, where svnserve looks for it by halves, and fails where a
+    revision without a date is met;
   - `get-file-revs` tells texts in windows of new data, where svnserve's are differences from the version before.
 """
 import collections
@@ -29,9 +31,10 @@ from trials import TEXTS as REFUSALS
 GREETING = b'( success ( 2 2 ( ) ( edit-pipeline depth ) ) ) '
 # The numbers of Subversion by which a client decides, and what the program says with each.
 TEXTS = {160006: 'no such revision', 160013: 'path not found', 160016: 'not a directory', 160017: 'not a file',
-         165004: 'bad revision report', 200007: 'not supported', 210001: 'this server only answers readers', 210004: 'bad command shape'}
+         125003: 'not a date', 165004: 'bad revision report', 200007: 'not supported', 210001: 'this server only answers readers', 210004: 'bad command shape'}
 NO_URL, OTHER = (170000, 'not a URL of a session'), (170000, 'not the same repository')
 NOWHEN = b'1970-01-01T00:00:00.000000Z'
+IS_DATE = re.compile(rb'[0-9]{4}-[0-9]{2}-[0-9]{2}T[0-9]{2}:[0-9]{2}:[0-9]{2}\.[0-9]{6}Z')
 DEPTHS = [b'empty', b'files', b'immediates', b'infinity', b'unknown']
 
 # Whether the program answers logs, and reports of working copies.
@@ -40,7 +43,7 @@ LATER = {'log': HAS_LOGS} | dict.fromkeys(['update', 'switch', 'status', 'diff']
 # The commands that are answered, and those that are denied where they have their form, with the number. (A client that hears
 # that a command is unknown asks for the same by `log`.)
 ANSWERED = {'get-latest-rev', 'check-path', 'get-file', 'get-dir', 'rev-proplist', 'rev-prop', 'stat', 'reparent', 'get-lock', 'get-locks',
-            'get-locations', 'get-file-revs'} | {name for name, is_answered in LATER.items() if is_answered}
+            'get-locations', 'get-file-revs', 'get-dated-rev'} | {name for name, is_answered in LATER.items() if is_answered}
 DENIED = dict.fromkeys(['change-rev-prop', 'change-rev-prop2', 'replay', 'replay-range', *LATER], 200007)
 DENIED |= {'get-location-segments': 210001 if HAS_LOGS else 200007}
 # Those of the latter that are answered here as svnserve does.
@@ -425,6 +428,16 @@ class Reads(Server):
         head = [b'/' + b'/'.join(path), number, self.listed(self.props[number]), gone + given, False]
         chunks = [] if old['text'] == new['text'] else plain_chunks(new['text'])
         return b''.join(map(spelled, [head, *chunks, b'']))
+
+    def at_get_dated_rev(self, params):
+        date = params.next(bytes)
+
+        def answered():
+            if not IS_DATE.fullmatch(date):
+                raise Denied(125003)
+            dates = [it.get(b'svn:date', b'') for it in self.props]
+            return success(max((n for n, it in enumerate(dates) if n and IS_DATE.fullmatch(it) and it <= date), default=0))
+        return answered
 
     def at_get_locations(self, params):
         path, peg, numbers = params.path(), params.next(int), params.list_of(lambda it: it.next(int))

@@ -80,11 +80,6 @@ class Copies:
             return any(os.path.isdir(os.path.join(it.encode(), line[21:].rstrip(b'\n'))) for it in self.rooms)
         return self.tells(*words, form=lambda it: [line for line in parts(it, b'') if not is_folder(line)])
 
-    def is_refused(self, number, *words):
-        """Words that the second URL refuses by this number alone."""
-        status, said, numbers = self.run(1, words)
-        self.same('svn %s is refused' % ' '.join(words), (1, [number.encode()]), (status, numbers))
-
     def does(self, *words):
         """Words that do the same to both, whatever they print of it."""
         self.tells(*words, form=lambda it: re.findall(rb'revision (\d+)\.\n', it)[-1:])
