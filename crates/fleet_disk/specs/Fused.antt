@@ -1,5 +1,6 @@
 -- A disk whose calls fail after a number of them.
-use Rattle.std.specs.Prelude.{◌≡◌, ◌≢◌, ◌-◌, ℕ, Result, Err}
+use Rattle.std.specs.Prelude.{◌≡◌, ◌≢◌, ◌+◌, ◌-◌, ℕ, Result, Err}
+use Rattle.fleet_disk.specs.declared.disk.Disk.{Ghosts}
 use Rattle.fleet_disk.specs.declared.disk.DiskFault.{DiskFault}
 use Rattle.fleet_disk.specs.declared.fuse.Fuse.TheVariants.{Once, ForGood, Spent}
 use Rattle.fleet_disk.specs.Rules.{HasCause}
@@ -40,3 +41,7 @@ pub record HasPassed {D T : Type 0} (failures : D → ℕ) (old new : FuseDisk D
   pub passing : passing_of new ≡ passing_of old - 1
   pub fuse : fuse_of new ≡ fuse_of old
   pub cause : HasCause (failures (inner_of old)) (failures (inner_of new)) result
+
+-- the failures of the disk inside and its own count together, and a refusal comes only where they rose
+abbrev pub IsCausedIn : {D T : Type 0} → Ghosts D → FuseDisk D → FuseDisk D → Result T DiskFault → Type 0
+IsCausedIn G old new result = HasCause (G.failures old.inner + old.failures) (G.failures new.inner + new.failures) result

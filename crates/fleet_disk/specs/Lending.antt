@@ -1,5 +1,5 @@
 -- What a folder has for a disk, what it lends, and what a call of a host leaves of that.
-use Rattle.std.specs.Prelude.{◌≡◌, ◌≢◌, ◌≤◌, ℕ, List}
+use Rattle.std.specs.Prelude.{◌≡◌, ◌≢◌, ◌≤◌, ℕ, List, Result, IfErr}
 use Rattle.fleet_disk.specs.FolderFiles.{path_in}
 use Rattle.fleet_disk.specs.Image.{no_bytes}
 use Rattle.fleet_disk.specs.Rules.{LeavesOnly, Only, Rose, Within}
@@ -63,3 +63,7 @@ MakesIn lacks folder old new = (other : List ℕ) → other ≢ folder → ((fil
 -- the device is told as failed only where the count of failures rose
 abbrev pub IsCounted : ℕ → ℕ → FolderFault → Type 0
 IsCounted before now e = e ≡ DeviceFailed → Rose before now
+
+-- and a call tells so of itself
+abbrev pub Counts : {C T : Type 0} → (C → ℕ) → C → C → Result T FolderFault → Type 0
+Counts failures old new result = IfErr result (IsCounted (failures old) (failures new))

@@ -9,6 +9,7 @@ pub mod Lasting
 pub mod Lending
 pub mod Memory
 pub mod MemoryLaws
+pub mod Passing
 pub mod Rests
 pub mod Rules
 pub mod Stopped

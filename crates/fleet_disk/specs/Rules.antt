@@ -52,6 +52,10 @@ pub record Elapses (before now : ℕ) (past since : ℕ → Image → Type 0) (m
   pub nothing_else : (t : ℕ) (c : Image) → t ≤ before → since t c → past t c ⊎ may_leave c
   pub keeps : (t : ℕ) (c : Image) → t ≤ before → past t c → since t c
 
+-- of what keeps the rules time goes on from before a call to behind it
+abbrev pub GoesBy : {D : Type 0} → (D → Type 0) → (D → ℕ) → (D → ℕ → Image → Type 0) → (D → Image → Type 0) → D → D → Type 0
+GoesBy honest clock left_since may_leave old new = honest old → Elapses (clock old) (clock new) (left_since old) (left_since new) (may_leave new)
+
 -- A stop at any moment since old leaves an image that has P.
 pub record LeavesOnly {D : Type 0} (clock : D → ℕ) (left_since : D → ℕ → Image → Type 0) (old new : D) (P : Image → Type 0) : Type 0 where
   pub later : clock old ≤ clock new

@@ -2,7 +2,8 @@
 ghost use Rattle.std.specs.Prelude.{◌≡◌, ◌≤◌, ◌<◌, ◌+◌, ◌-◌, ◌↔◌, ℕ, List, length, take, IsTrue, IfOk, OnOk};
 ghost use Rattle.fleet_disk.specs.Ahead.{IsAhead};
 ghost use Rattle.fleet_disk.specs.Image.{bytes_of};
-ghost use Rattle.fleet_disk.specs.Rules.{Elapses, HasCause, IsRead, Within};
+ghost use Rattle.fleet_disk.specs.Passing.{HostGoesOn};
+ghost use Rattle.fleet_disk.specs.Rules.{HasCause, IsRead, Within};
 
 use crate::calls::HostCalls;
 use crate::copy::copy_from;
@@ -87,8 +88,7 @@ fn look_ahead<H: HostCalls>(
         → at < ahead.new.at + ahead.new.len) }
     ensures reads { H.honest host.old → H.reads host.new ≡ H.reads host.old }
     ensures left { H.honest host.old → Within (H.may_leave host.new) (H.may_leave host.old) }
-    ensures time { H.honest host.old → Elapses (H.clock host.old) (H.clock host.new) (H.left_since host.old)
-        (H.left_since host.new) (H.may_leave host.new) }
+    ensures time { HostGoesOn H.HostCalls host.old host.new }
     ensures honest { H.honest host.old ↔ H.honest host.new }
     ensures cause { HasCause (H.failures host.old) (H.failures host.new) result }
 {
@@ -120,8 +120,7 @@ pub fn read_through<H: HostCalls>(
         (bytes_of file (H.reads host.old)) at n buf.old buf.new) }
     ensures reads { H.honest host.old → H.reads host.new ≡ H.reads host.old }
     ensures left { H.honest host.old → Within (H.may_leave host.new) (H.may_leave host.old) }
-    ensures time { H.honest host.old → Elapses (H.clock host.old) (H.clock host.new) (H.left_since host.old)
-        (H.left_since host.new) (H.may_leave host.new) }
+    ensures time { HostGoesOn H.HostCalls host.old host.new }
     ensures honest { H.honest host.old ↔ H.honest host.new }
     ensures cause { HasCause (H.failures host.old) (H.failures host.new) result }
 {

@@ -2,8 +2,8 @@
 ghost use Rattle.std.specs.Prelude.{◌≡◌, ◌≤◌, ◌↔◌, ℕ, length, take, IfOk, OnOk};
 ghost use Rattle.fleet_disk.specs.Image.{Image, bytes_of};
 ghost use Rattle.fleet_disk.specs.Rests.{Rests};
-ghost use Rattle.fleet_disk.specs.Rules.{overwritten, IsRead, Torn, CutBack, OnFile, Follows, Within, Elapses};
-ghost use Rattle.fleet_disk.specs.Rules.{HasCause};
+ghost use Rattle.fleet_disk.specs.Rules.{overwritten, IsRead, Torn, CutBack, OnFile, Follows, Within};
+ghost use Rattle.fleet_disk.specs.Rules.{GoesBy, HasCause};
 
 use crate::disk::{DiskFault, DiskFile};
 
@@ -38,8 +38,7 @@ pub trait HostCalls {
             (bytes_of file (reads self.old)) at n buf.old buf.new) }
         ensures reads { honest self.old → reads self.new ≡ reads self.old }
         ensures left { honest self.old → Within (may_leave self.new) (may_leave self.old) }
-        ensures time { honest self.old → Elapses (clock self.old) (clock self.new) (left_since self.old)
-            (left_since self.new) (may_leave self.new) }
+        ensures time { GoesBy honest clock left_since may_leave self.old self.new }
         ensures honest { honest self.old ↔ honest self.new }
         ensures cause { HasCause (failures self.old) (failures self.new) result };
 
@@ -48,8 +47,7 @@ pub trait HostCalls {
         ensures bytes { honest self.old → IfOk result (λ n. n ≡ length (bytes_of file (reads self.old))) }
         ensures reads { honest self.old → reads self.new ≡ reads self.old }
         ensures left { honest self.old → Within (may_leave self.new) (may_leave self.old) }
-        ensures time { honest self.old → Elapses (clock self.old) (clock self.new) (left_since self.old)
-            (left_since self.new) (may_leave self.new) }
+        ensures time { GoesBy honest clock left_since may_leave self.old self.new }
         ensures honest { honest self.old ↔ honest self.new }
         ensures cause { HasCause (failures self.old) (failures self.new) result };
 
@@ -60,8 +58,7 @@ pub trait HostCalls {
             new ≡ overwritten at bytes.now old) (reads self.old) (reads self.new)) }
         ensures left { honest self.old → Follows (OnFile file (Torn at (length bytes.now))) (may_leave self.old)
             (may_leave self.new) }
-        ensures time { honest self.old → Elapses (clock self.old) (clock self.new) (left_since self.old)
-            (left_since self.new) (may_leave self.new) }
+        ensures time { GoesBy honest clock left_since may_leave self.old self.new }
         ensures honest { honest self.old ↔ honest self.new }
         ensures cause { HasCause (failures self.old) (failures self.new) result };
 
@@ -71,8 +68,7 @@ pub trait HostCalls {
         ensures cut { honest self.old → OnOk result (OnFile file (λ old new.
             new ≡ take len old) (reads self.old) (reads self.new)) }
         ensures left { honest self.old → Follows (OnFile file (CutBack len)) (may_leave self.old) (may_leave self.new) }
-        ensures time { honest self.old → Elapses (clock self.old) (clock self.new) (left_since self.old)
-            (left_since self.new) (may_leave self.new) }
+        ensures time { GoesBy honest clock left_since may_leave self.old self.new }
         ensures honest { honest self.old ↔ honest self.new }
         ensures cause { HasCause (failures self.old) (failures self.new) result };
 
@@ -81,8 +77,7 @@ pub trait HostCalls {
         ensures durable { honest self.old → OnOk result (Rests file (reads self.old) (may_leave self.new)) }
         ensures reads { honest self.old → reads self.new ≡ reads self.old }
         ensures left { honest self.old → Within (may_leave self.new) (may_leave self.old) }
-        ensures time { honest self.old → Elapses (clock self.old) (clock self.new) (left_since self.old)
-            (left_since self.new) (may_leave self.new) }
+        ensures time { GoesBy honest clock left_since may_leave self.old self.new }
         ensures honest { honest self.old ↔ honest self.new }
         ensures cause { HasCause (failures self.old) (failures self.new) result };
 

@@ -1,8 +1,8 @@
 //! A disk as a log sees it: what a read gives, and what a stop may leave.
 ghost use Rattle.std.specs.Prelude.{◌≡◌, ◌≤◌, ◌↔◌, ℕ, length, take, IfOk, OnOk};
 ghost use Rattle.fleet_disk.specs.Image.{Image, bytes_of};
-ghost use Rattle.fleet_disk.specs.Rules.{overwritten, IsRead, Torn, CutBack, OnFile, Follows, Within, Only, Elapses};
-ghost use Rattle.fleet_disk.specs.Rules.{HasCause};
+ghost use Rattle.fleet_disk.specs.Rules.{overwritten, IsRead, Torn, CutBack, OnFile, Follows, Within, Only};
+ghost use Rattle.fleet_disk.specs.Rules.{GoesBy, HasCause};
 
 use thiserror::Error;
 
@@ -56,8 +56,7 @@ pub trait Disk {
             (bytes_of file (reads self.old)) at n buf.old buf.new) }
         ensures reads { honest self.old → reads self.new ≡ reads self.old }
         ensures left { honest self.old → Within (may_leave self.new) (may_leave self.old) }
-        ensures time { honest self.old → Elapses (clock self.old) (clock self.new) (left_since self.old)
-            (left_since self.new) (may_leave self.new) }
+        ensures time { GoesBy honest clock left_since may_leave self.old self.new }
         ensures honest { honest self.old ↔ honest self.new }
         ensures cause { HasCause (failures self.old) (failures self.new) result };
 
@@ -66,8 +65,7 @@ pub trait Disk {
         ensures bytes { honest self.old → IfOk result (λ n. n ≡ length (bytes_of file (reads self.old))) }
         ensures reads { honest self.old → reads self.new ≡ reads self.old }
         ensures left { honest self.old → Within (may_leave self.new) (may_leave self.old) }
-        ensures time { honest self.old → Elapses (clock self.old) (clock self.new) (left_since self.old)
-            (left_since self.new) (may_leave self.new) }
+        ensures time { GoesBy honest clock left_since may_leave self.old self.new }
         ensures honest { honest self.old ↔ honest self.new }
         ensures cause { HasCause (failures self.old) (failures self.new) result };
 
@@ -78,8 +76,7 @@ pub trait Disk {
             new ≡ overwritten at bytes.now old) (reads self.old) (reads self.new)) }
         ensures left { honest self.old → Follows (OnFile file (Torn at (length bytes.now))) (may_leave self.old)
             (may_leave self.new) }
-        ensures time { honest self.old → Elapses (clock self.old) (clock self.new) (left_since self.old)
-            (left_since self.new) (may_leave self.new) }
+        ensures time { GoesBy honest clock left_since may_leave self.old self.new }
         ensures honest { honest self.old ↔ honest self.new }
         ensures cause { HasCause (failures self.old) (failures self.new) result };
 
@@ -89,8 +86,7 @@ pub trait Disk {
         ensures cut { honest self.old → OnOk result (OnFile file (λ old new.
             new ≡ take len old) (reads self.old) (reads self.new)) }
         ensures left { honest self.old → Follows (OnFile file (CutBack len)) (may_leave self.old) (may_leave self.new) }
-        ensures time { honest self.old → Elapses (clock self.old) (clock self.new) (left_since self.old)
-            (left_since self.new) (may_leave self.new) }
+        ensures time { GoesBy honest clock left_since may_leave self.old self.new }
         ensures honest { honest self.old ↔ honest self.new }
         ensures cause { HasCause (failures self.old) (failures self.new) result };
 
@@ -99,8 +95,7 @@ pub trait Disk {
         ensures durable { honest self.old → OnOk result (Only (reads self.old) (may_leave self.new)) }
         ensures reads { honest self.old → reads self.new ≡ reads self.old }
         ensures left { honest self.old → Within (may_leave self.new) (may_leave self.old) }
-        ensures time { honest self.old → Elapses (clock self.old) (clock self.new) (left_since self.old)
-            (left_since self.new) (may_leave self.new) }
+        ensures time { GoesBy honest clock left_since may_leave self.old self.new }
         ensures honest { honest self.old ↔ honest self.new }
         ensures cause { HasCause (failures self.old) (failures self.new) result };
 

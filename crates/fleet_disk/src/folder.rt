@@ -1,9 +1,9 @@
 //! The disks of folders, by the single calls of a host.
-ghost use Rattle.std.specs.Prelude.{◌≡◌, ◌≤◌, ◌⊎◌, IfOk, IfErr, IfSome, IsSome, IsTrue, OnOk, OnErr, string_bytes};
+ghost use Rattle.std.specs.Prelude.{◌≡◌, ◌≤◌, ◌⊎◌, IfOk, IfSome, IsSome, IsTrue, OnOk, OnErr, string_bytes};
 ghost use Rattle.std.specs.Prelude.{IsNone, IsSomeAnd};
 ghost use Rattle.fleet_disk.specs.FolderFiles.{path_in, AreAll, AreIn, HasBytes, HasFiles, IsFound, IsHeld, LacksEntries};
 ghost use Rattle.fleet_disk.specs.Lasting.{IsMadeToLast, KeepsName, KeepsNames};
-ghost use Rattle.fleet_disk.specs.Lending.{IsCounted, Lends, MakesIn, MakesNothing, MakesOnly, Spares};
+ghost use Rattle.fleet_disk.specs.Lending.{Counts, Lends, MakesIn, MakesNothing, MakesOnly, Spares};
 ghost use Rattle.fleet_disk.specs.declared.disk.DiskFile.{DiskFile};
 ghost use Rattle.fleet_disk.specs.declared.disk.DiskFile.TheVariants.{Gate, Journal, Slots};
 
@@ -29,7 +29,7 @@ pub fn open_folder<C: FolderCalls>(
     ensures nothing { MakesNothing C.lacks calls.old calls.new }
     ensures same { OnErr result (Spares C.honest C.disk C.failures calls.old calls.new) }
     ensures later { C.failures calls.old ≤ C.failures calls.new }
-    ensures cause { IfErr result (IsCounted (C.failures calls.old) (C.failures calls.new)) }
+    ensures cause { Counts C.failures calls.old calls.new result }
 {
     let files = found(calls, alloc, folder)?;
     lend(calls, alloc, folder, files)
@@ -53,7 +53,7 @@ pub fn create_folder<C: FolderCalls>(
     ensures nothing_else { MakesIn C.lacks folder.now calls.old calls.new }
     ensures same { OnErr result (Spares C.honest C.disk C.failures calls.old calls.new) }
     ensures later { C.failures calls.old ≤ C.failures calls.new }
-    ensures cause { IfErr result (IsCounted (C.failures calls.old) (C.failures calls.new)) }
+    ensures cause { Counts C.failures calls.old calls.new result }
 {
     let files = found(calls, alloc, folder)?;
     let is_full = has_bytes(calls, &files)?;
@@ -82,7 +82,7 @@ pub fn complete_folder<C: FolderCalls>(
     ensures nothing_else { MakesIn C.lacks folder.now calls.old calls.new }
     ensures same { OnErr result (Spares C.honest C.disk C.failures calls.old calls.new) }
     ensures later { C.failures calls.old ≤ C.failures calls.new }
-    ensures cause { IfErr result (IsCounted (C.failures calls.old) (C.failures calls.new)) }
+    ensures cause { Counts C.failures calls.old calls.new result }
 {
     let files = found(calls, alloc, folder)?;
     if lacks_entries(&files) {
@@ -108,7 +108,7 @@ fn lend<C: FolderCalls>(
     ensures names { KeepsNames C.lasts calls.old calls.new }
     ensures same { OnErr result (Spares C.honest C.disk C.failures calls.old calls.new) }
     ensures later { C.failures calls.old ≤ C.failures calls.new }
-    ensures cause { IfErr result (IsCounted (C.failures calls.old) (C.failures calls.new)) }
+    ensures cause { Counts C.failures calls.old calls.new result }
 {
     let mut opened = files;
     calls.lend(alloc, folder, &mut opened)
@@ -135,7 +135,7 @@ fn opened<C: FolderCalls>(
     ensures found { IfOk result (IsFound C.is_at (C.lacks calls.new) (path_in folder.now file)) }
     ensures nothing { MakesNothing C.lacks calls.old calls.new }
     ensures spares { Spares C.honest C.disk C.failures calls.old calls.new }
-    ensures cause { IfErr result (IsCounted (C.failures calls.old) (C.failures calls.new)) }
+    ensures cause { Counts C.failures calls.old calls.new result }
 {
     let path = path_to(alloc, folder, file)?;
     calls.open(path.as_str())
@@ -153,7 +153,7 @@ fn made<C: FolderCalls>(
     ensures nothing_else { MakesIn C.lacks folder.now calls.old calls.new }
     ensures name { KeepsName C.lasts folder.now calls.old calls.new }
     ensures spares { Spares C.honest C.disk C.failures calls.old calls.new }
-    ensures cause { IfErr result (IsCounted (C.failures calls.old) (C.failures calls.new)) }
+    ensures cause { Counts C.failures calls.old calls.new result }
 {
     let path = path_to(alloc, folder, file)?;
     calls.make(path.as_str())
@@ -164,7 +164,7 @@ fn hold_found<C: FolderCalls>(calls: &mut C, journal: &Option<C::File>) -> Resul
     ensures held { OnOk result (IfSome journal.now C.is_held) }
     ensures nothing { MakesNothing C.lacks calls.old calls.new }
     ensures spares { Spares C.honest C.disk C.failures calls.old calls.new }
-    ensures cause { IfErr result (IsCounted (C.failures calls.old) (C.failures calls.new)) }
+    ensures cause { Counts C.failures calls.old calls.new result }
 {
     match journal {
         Some(file) => calls.hold(file),
@@ -182,7 +182,7 @@ fn found<C: FolderCalls>(
     ensures held { IfOk result (IsHeld C.is_held) }
     ensures nothing { MakesNothing C.lacks calls.old calls.new }
     ensures spares { Spares C.honest C.disk C.failures calls.old calls.new }
-    ensures cause { IfErr result (IsCounted (C.failures calls.old) (C.failures calls.new)) }
+    ensures cause { Counts C.failures calls.old calls.new result }
 {
     let journal = opened(calls, alloc, folder, DiskFile::Journal)?;
     hold_found(calls, &journal)?;
@@ -204,7 +204,7 @@ fn has_bytes<C: FolderCalls>(
     ensures none { IfOk result (λ some. ¬ IsTrue some → AreAll C.is_new files.now) }
     ensures nothing { MakesNothing C.lacks calls.old calls.new }
     ensures spares { Spares C.honest C.disk C.failures calls.old calls.new }
-    ensures cause { IfErr result (IsCounted (C.failures calls.old) (C.failures calls.new)) }
+    ensures cause { Counts C.failures calls.old calls.new result }
 {
     let journal = is_full(calls, &files.journal)?;
     let gate = is_full(calls, &files.gate)?;
@@ -218,7 +218,7 @@ fn is_full<C: FolderCalls>(calls: &mut C, file: &Option<C::File>) -> Result<bool
     ensures none { IfOk result (λ some. ¬ IsTrue some → IfSome file.now C.is_new) }
     ensures nothing { MakesNothing C.lacks calls.old calls.new }
     ensures spares { Spares C.honest C.disk C.failures calls.old calls.new }
-    ensures cause { IfErr result (IsCounted (C.failures calls.old) (C.failures calls.new)) }
+    ensures cause { Counts C.failures calls.old calls.new result }
 {
     match file {
         Some(file) => {
@@ -251,7 +251,7 @@ fn there<C: FolderCalls>(
     ensures nothing_else { MakesIn C.lacks folder.now calls.old calls.new }
     ensures name { KeepsName C.lasts folder.now calls.old calls.new }
     ensures spares { Spares C.honest C.disk C.failures calls.old calls.new }
-    ensures cause { IfErr result (IsCounted (C.failures calls.old) (C.failures calls.new)) }
+    ensures cause { Counts C.failures calls.old calls.new result }
 {
     match found {
         Some(there) => Ok(there),
@@ -274,7 +274,7 @@ fn held_journal<C: FolderCalls>(
     ensures nothing_else { MakesIn C.lacks folder.now calls.old calls.new }
     ensures name { KeepsName C.lasts folder.now calls.old calls.new }
     ensures spares { Spares C.honest C.disk C.failures calls.old calls.new }
-    ensures cause { IfErr result (IsCounted (C.failures calls.old) (C.failures calls.new)) }
+    ensures cause { Counts C.failures calls.old calls.new result }
 {
     match found {
         Some(there) => Ok(there),
@@ -292,7 +292,7 @@ fn make_missing<C: FolderCalls>(calls: &mut C, folder: &str) -> Result<(), Folde
         → OnOk result (C.lacks calls.old folder.now → C.lasts calls.new folder.now) }
     ensures nothing_else { MakesOnly C.lacks folder.now calls.old calls.new }
     ensures spares { Spares C.honest C.disk C.failures calls.old calls.new }
-    ensures cause { IfErr result (IsCounted (C.failures calls.old) (C.failures calls.new)) }
+    ensures cause { Counts C.failures calls.old calls.new result }
 {
     let is_made = calls.make_folder(folder)?;
     if is_made {
@@ -318,7 +318,7 @@ fn make_files<C: FolderCalls>(
     ensures nothing_else { MakesIn C.lacks folder.now calls.old calls.new }
     ensures name { KeepsName C.lasts folder.now calls.old calls.new }
     ensures spares { Spares C.honest C.disk C.failures calls.old calls.new }
-    ensures cause { IfErr result (IsCounted (C.failures calls.old) (C.failures calls.new)) }
+    ensures cause { Counts C.failures calls.old calls.new result }
 {
     let FolderFiles {
         journal,
@@ -351,7 +351,7 @@ fn make_all<C: FolderCalls>(
     ensures lasting { OnOk result (IsMadeToLast C.honest C.lacks C.lasts calls.old calls.new folder.now) }
     ensures nothing_else { MakesIn C.lacks folder.now calls.old calls.new }
     ensures spares { Spares C.honest C.disk C.failures calls.old calls.new }
-    ensures cause { IfErr result (IsCounted (C.failures calls.old) (C.failures calls.new)) }
+    ensures cause { Counts C.failures calls.old calls.new result }
 {
     make_missing(calls, folder)?;
     let files = make_files(calls, alloc, folder, files)?;
@@ -377,7 +377,7 @@ fn make_slots<C: FolderCalls>(
     ensures lasting { OnOk result ((file : DiskFile) → C.lasts calls.new (path_in folder.now file)) }
     ensures nothing_else { MakesIn C.lacks folder.now calls.old calls.new }
     ensures spares { Spares C.honest C.disk C.failures calls.old calls.new }
-    ensures cause { IfErr result (IsCounted (C.failures calls.old) (C.failures calls.new)) }
+    ensures cause { Counts C.failures calls.old calls.new result }
 {
     let FolderFiles {
         journal,

@@ -1,8 +1,8 @@
 //! What a host does to open, make and close the files of folders.
-ghost use Rattle.std.specs.Prelude.{◌≡◌, ◌≤◌, ℕ, List, false, true, IfOk, IfErr, OnOk, OnErr};
+ghost use Rattle.std.specs.Prelude.{◌≡◌, ◌≤◌, ℕ, List, false, true, IfOk, OnOk, OnErr};
 ghost use Rattle.fleet_disk.specs.FolderFiles.{AreIn, IsFound, IsHeld};
 ghost use Rattle.fleet_disk.specs.Lasting.{IsSynced, KeepsNames, KeepsOthers};
-ghost use Rattle.fleet_disk.specs.Lending.{FolderDisk, IsCounted, Lends, MakesNothing, MakesOnly};
+ghost use Rattle.fleet_disk.specs.Lending.{FolderDisk, Counts, Lends, MakesNothing, MakesOnly};
 ghost use Rattle.fleet_disk.specs.Lending.{OthersStay, Spares, Lent, There};
 ghost use Rattle.fleet_disk.specs.declared.folder_files.FolderFiles.{FolderFiles as FilesOf};
 
@@ -58,7 +58,7 @@ pub trait FolderCalls {
         ensures nothing { MakesNothing lacks self.old self.new }
         ensures names { KeepsNames lasts self.old self.new }
         ensures spares { Spares honest disk failures self.old self.new }
-        ensures cause { IfErr result (IsCounted (failures self.old) (failures self.new)) };
+        ensures cause { Counts failures self.old self.new result };
 
     /// Makes an empty file at a path, where nothing is (`open` with `O_CREAT` and `O_EXCL`).
     fn make(&mut self, path: &str) -> Result<Self::File, FolderFault>
@@ -67,7 +67,7 @@ pub trait FolderCalls {
         ensures nothing_else { MakesOnly lacks path.now self.old self.new }
         ensures names { KeepsOthers lasts path.now self.old self.new }
         ensures spares { Spares honest disk failures self.old self.new }
-        ensures cause { IfErr result (IsCounted (failures self.old) (failures self.new)) };
+        ensures cause { Counts failures self.old self.new result };
 
     /// Holds a file (`flock`). It is refused where another opening holds it.
     fn hold(&mut self, file: &Self::File) -> Result<(), FolderFault>
@@ -75,7 +75,7 @@ pub trait FolderCalls {
         ensures nothing { MakesNothing lacks self.old self.new }
         ensures names { KeepsNames lasts self.old self.new }
         ensures spares { Spares honest disk failures self.old self.new }
-        ensures cause { IfErr result (IsCounted (failures self.old) (failures self.new)) };
+        ensures cause { Counts failures self.old self.new result };
 
     /// Whether a file has no byte (`fstat`).
     fn is_empty(&mut self, file: &Self::File) -> Result<bool, FolderFault>
@@ -84,7 +84,7 @@ pub trait FolderCalls {
         ensures nothing { MakesNothing lacks self.old self.new }
         ensures names { KeepsNames lasts self.old self.new }
         ensures spares { Spares honest disk failures self.old self.new }
-        ensures cause { IfErr result (IsCounted (failures self.old) (failures self.new)) };
+        ensures cause { Counts failures self.old self.new result };
 
     /// Makes a folder (`mkdir`); false where something of its name is there.
     fn make_folder(&mut self, folder: &str) -> Result<bool, FolderFault>
@@ -92,7 +92,7 @@ pub trait FolderCalls {
         ensures nothing_else { MakesOnly lacks folder.now self.old self.new }
         ensures names { KeepsOthers lasts folder.now self.old self.new }
         ensures spares { Spares honest disk failures self.old self.new }
-        ensures cause { IfErr result (IsCounted (failures self.old) (failures self.new)) };
+        ensures cause { Counts failures self.old self.new result };
 
     /// Makes the names in a folder last (`fsync`).
     fn sync_folder(&mut self, folder: &str) -> Result<(), FolderFault>
@@ -100,7 +100,7 @@ pub trait FolderCalls {
         ensures nothing { MakesNothing lacks self.old self.new }
         ensures names { KeepsNames lasts self.old self.new }
         ensures spares { Spares honest disk failures self.old self.new }
-        ensures cause { IfErr result (IsCounted (failures self.old) (failures self.new)) };
+        ensures cause { Counts failures self.old self.new result };
 
     /// Lends the disk of a folder over those of its files that are there, which it takes. One that is lent isn't lent
     /// again. A host may refuse a folder that was moved since its journal was opened.
@@ -118,7 +118,7 @@ pub trait FolderCalls {
         ensures names { KeepsNames lasts self.old self.new }
         ensures same { OnErr result (Spares honest disk failures self.old self.new) }
         ensures later { failures self.old ≤ failures self.new }
-        ensures cause { IfErr result (IsCounted (failures self.old) (failures self.new)) };
+        ensures cause { Counts failures self.old self.new result };
 
     /// Closes the files of a folder, and takes its disk back (`close`).
     fn close(&mut self, folder: &str, place: Self::Place)

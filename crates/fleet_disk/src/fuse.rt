@@ -1,9 +1,9 @@
 //! A disk whose calls fail after a number of them.
-ghost use Rattle.std.specs.Prelude.{◌≡◌, ◌≤◌, ◌<◌, ◌+◌, ◌-◌, ◌↔◌, ℕ, length, take, IfOk, OnOk, IsTrue, IsFalse};
-ghost use Rattle.fleet_disk.specs.Fused.{inner_of, passing_of, fuse_of, blown, FailsNext, HasBlown, HasPassed};
-ghost use Rattle.fleet_disk.specs.Image.{Image, bytes_of};
-ghost use Rattle.fleet_disk.specs.Rules.{overwritten, IsRead, Torn, CutBack, OnFile, Follows, Within, Only, Elapses};
-ghost use Rattle.fleet_disk.specs.Rules.{HasCause, Rose};
+ghost use Rattle.std.specs.Prelude.{◌≡◌, ◌≤◌, ◌<◌, ◌+◌, ◌-◌, ◌↔◌, length, take, IfOk, OnOk, IsTrue, IsFalse};
+ghost use Rattle.fleet_disk.specs.Fused.{inner_of, passing_of, fuse_of, blown, FailsNext, HasBlown, HasPassed, IsCausedIn};
+ghost use Rattle.fleet_disk.specs.Image.{bytes_of};
+ghost use Rattle.fleet_disk.specs.Rules.{overwritten, IsRead, Torn, CutBack, OnFile, Follows, Within, Only, Rose};
+ghost use Rattle.fleet_disk.specs.Passing.{GoesOn};
 
 use crate::disk::{Disk, DiskFault, DiskFile};
 
@@ -105,11 +105,9 @@ impl<D: Disk> Disk for FuseDisk<D> {
             (bytes_of file (D.reads self.old.inner)) at n buf.old buf.new) }
         ensures reads { D.honest self.old.inner → D.reads self.new.inner ≡ D.reads self.old.inner }
         ensures left { D.honest self.old.inner → Within (D.may_leave self.new.inner) (D.may_leave self.old.inner) }
-        ensures time { D.honest self.old.inner → Elapses (D.clock self.old.inner) (D.clock self.new.inner)
-            (D.left_since self.old.inner) (D.left_since self.new.inner) (D.may_leave self.new.inner) }
+        ensures time { GoesOn D.Disk self.old.inner self.new.inner }
         ensures honest { D.honest self.old.inner ↔ D.honest self.new.inner }
-        ensures cause { HasCause (D.failures self.old.inner + self.old.failures)
-            (D.failures self.new.inner + self.new.failures) result }
+        ensures cause { IsCausedIn D.Disk self.old self.new result }
         ensures blows { FailsNext self.old → HasBlown self.old self.new result }
         ensures passes { ¬ FailsNext self.old → HasPassed D.failures self.old self.new result }
     {
@@ -124,11 +122,9 @@ impl<D: Disk> Disk for FuseDisk<D> {
             → IfOk result (λ n. n ≡ length (bytes_of file (D.reads self.old.inner))) }
         ensures reads { D.honest self.old.inner → D.reads self.new.inner ≡ D.reads self.old.inner }
         ensures left { D.honest self.old.inner → Within (D.may_leave self.new.inner) (D.may_leave self.old.inner) }
-        ensures time { D.honest self.old.inner → Elapses (D.clock self.old.inner) (D.clock self.new.inner)
-            (D.left_since self.old.inner) (D.left_since self.new.inner) (D.may_leave self.new.inner) }
+        ensures time { GoesOn D.Disk self.old.inner self.new.inner }
         ensures honest { D.honest self.old.inner ↔ D.honest self.new.inner }
-        ensures cause { HasCause (D.failures self.old.inner + self.old.failures)
-            (D.failures self.new.inner + self.new.failures) result }
+        ensures cause { IsCausedIn D.Disk self.old self.new result }
         ensures blows { FailsNext self.old → HasBlown self.old self.new result }
         ensures passes { ¬ FailsNext self.old → HasPassed D.failures self.old self.new result }
     {
@@ -144,11 +140,9 @@ impl<D: Disk> Disk for FuseDisk<D> {
             new ≡ overwritten at bytes.now old) (D.reads self.old.inner) (D.reads self.new.inner)) }
         ensures left { D.honest self.old.inner → Follows (OnFile file (Torn at (length bytes.now)))
             (D.may_leave self.old.inner) (D.may_leave self.new.inner) }
-        ensures time { D.honest self.old.inner → Elapses (D.clock self.old.inner) (D.clock self.new.inner)
-            (D.left_since self.old.inner) (D.left_since self.new.inner) (D.may_leave self.new.inner) }
+        ensures time { GoesOn D.Disk self.old.inner self.new.inner }
         ensures honest { D.honest self.old.inner ↔ D.honest self.new.inner }
-        ensures cause { HasCause (D.failures self.old.inner + self.old.failures)
-            (D.failures self.new.inner + self.new.failures) result }
+        ensures cause { IsCausedIn D.Disk self.old self.new result }
         ensures blows { FailsNext self.old → HasBlown self.old self.new result }
         ensures passes { ¬ FailsNext self.old → HasPassed D.failures self.old self.new result }
     {
@@ -164,11 +158,9 @@ impl<D: Disk> Disk for FuseDisk<D> {
             new ≡ take len old) (D.reads self.old.inner) (D.reads self.new.inner)) }
         ensures left { D.honest self.old.inner → Follows (OnFile file (CutBack len)) (D.may_leave self.old.inner)
             (D.may_leave self.new.inner) }
-        ensures time { D.honest self.old.inner → Elapses (D.clock self.old.inner) (D.clock self.new.inner)
-            (D.left_since self.old.inner) (D.left_since self.new.inner) (D.may_leave self.new.inner) }
+        ensures time { GoesOn D.Disk self.old.inner self.new.inner }
         ensures honest { D.honest self.old.inner ↔ D.honest self.new.inner }
-        ensures cause { HasCause (D.failures self.old.inner + self.old.failures)
-            (D.failures self.new.inner + self.new.failures) result }
+        ensures cause { IsCausedIn D.Disk self.old self.new result }
         ensures blows { FailsNext self.old → HasBlown self.old self.new result }
         ensures passes { ¬ FailsNext self.old → HasPassed D.failures self.old self.new result }
     {
@@ -183,11 +175,9 @@ impl<D: Disk> Disk for FuseDisk<D> {
             → OnOk result (Only (D.reads self.old.inner) (D.may_leave self.new.inner)) }
         ensures reads { D.honest self.old.inner → D.reads self.new.inner ≡ D.reads self.old.inner }
         ensures left { D.honest self.old.inner → Within (D.may_leave self.new.inner) (D.may_leave self.old.inner) }
-        ensures time { D.honest self.old.inner → Elapses (D.clock self.old.inner) (D.clock self.new.inner)
-            (D.left_since self.old.inner) (D.left_since self.new.inner) (D.may_leave self.new.inner) }
+        ensures time { GoesOn D.Disk self.old.inner self.new.inner }
         ensures honest { D.honest self.old.inner ↔ D.honest self.new.inner }
-        ensures cause { HasCause (D.failures self.old.inner + self.old.failures)
-            (D.failures self.new.inner + self.new.failures) result }
+        ensures cause { IsCausedIn D.Disk self.old self.new result }
         ensures blows { FailsNext self.old → HasBlown self.old self.new result }
         ensures passes { ¬ FailsNext self.old → HasPassed D.failures self.old self.new result }
     {

@@ -5,7 +5,7 @@ ghost use Rattle.fleet_disk.specs.Image.{Image, bytes_of};
 ghost use Rattle.fleet_disk.specs.Memory.{read_after, written, on_file, Leaves, LeftSince};
 ghost use Rattle.std.specs.declared.alloc.Global.{Global};
 ghost use Rattle.fleet_disk.specs.Rules.{overwritten, IsRead, Only, Rose, Torn, CutBack, OnFile, Follows, Within};
-ghost use Rattle.fleet_disk.specs.Rules.{Elapses, HasCause};
+ghost use Rattle.fleet_disk.specs.Rules.{HasCause};
 
 use crate::call::{DiskCall, Pick};
 use crate::contents::Contents;
@@ -146,7 +146,7 @@ impl MemDisk {
 
 impl Disk for MemDisk {
     ghost use Rattle.fleet_disk.specs.MemoryLaws.{counted_now, only_left, read_is_left};
-    ghost use Rattle.fleet_disk.specs.Stopped.{calls_of, now_of, MayLeave, RemembersWrite, WasLeft};
+    ghost use Rattle.fleet_disk.specs.Stopped.{calls_of, now_of, GoesOnIn, MayLeave, RemembersWrite, WasLeft};
     ghost use Rattle.std.proofs.Common.{subst};
 
     ghost honest = { λ disk. ⊤ };
@@ -174,8 +174,7 @@ impl Disk for MemDisk {
             (bytes_of file (now_of self.old)) at n buf.old buf.new) }
         ensures reads { ⊤ → now_of self.new ≡ now_of self.old }
         ensures left { ⊤ → Within (MayLeave self.new) (MayLeave self.old) }
-        ensures time { ⊤ → Elapses (length (calls_of self.old)) (length (calls_of self.new)) (WasLeft self.old)
-            (WasLeft self.new) (MayLeave self.new) }
+        ensures time { GoesOnIn self.old self.new }
         ensures honest { ⊤ ↔ ⊤ }
         ensures cause { HasCause self.old.failures self.new.failures result }
         ensures remembers { OnOk result
@@ -194,8 +193,7 @@ impl Disk for MemDisk {
         ensures bytes { ⊤ → IfOk result (λ n. n ≡ length (bytes_of file (now_of self.old))) }
         ensures reads { ⊤ → now_of self.new ≡ now_of self.old }
         ensures left { ⊤ → Within (MayLeave self.new) (MayLeave self.old) }
-        ensures time { ⊤ → Elapses (length (calls_of self.old)) (length (calls_of self.new)) (WasLeft self.old)
-            (WasLeft self.new) (MayLeave self.new) }
+        ensures time { GoesOnIn self.old self.new }
         ensures honest { ⊤ ↔ ⊤ }
         ensures cause { HasCause self.old.failures self.new.failures result }
         ensures remembers { OnOk result (calls_of self.new ≡ calls_of self.old ++ DiskCall.Len file ∷ []) }
@@ -214,8 +212,7 @@ impl Disk for MemDisk {
             new ≡ overwritten at bytes.now old) (now_of self.old) (now_of self.new)) }
         ensures left { ⊤ → Follows (OnFile file (Torn at (length bytes.now))) (MayLeave self.old)
             (MayLeave self.new) }
-        ensures time { ⊤ → Elapses (length (calls_of self.old)) (length (calls_of self.new)) (WasLeft self.old)
-            (WasLeft self.new) (MayLeave self.new) }
+        ensures time { GoesOnIn self.old self.new }
         ensures honest { ⊤ ↔ ⊤ }
         ensures cause { HasCause self.old.failures self.new.failures result }
         ensures remembers { OnOk result (RemembersWrite file at bytes.now self.old self.new) }
@@ -232,8 +229,7 @@ impl Disk for MemDisk {
         ensures cut { ⊤ → OnOk result (OnFile file (λ old new.
             new ≡ take len old) (now_of self.old) (now_of self.new)) }
         ensures left { ⊤ → Follows (OnFile file (CutBack len)) (MayLeave self.old) (MayLeave self.new) }
-        ensures time { ⊤ → Elapses (length (calls_of self.old)) (length (calls_of self.new)) (WasLeft self.old)
-            (WasLeft self.new) (MayLeave self.new) }
+        ensures time { GoesOnIn self.old self.new }
         ensures honest { ⊤ ↔ ⊤ }
         ensures cause { HasCause self.old.failures self.new.failures result }
         ensures remembers { OnOk result (calls_of self.new ≡ calls_of self.old ++ DiskCall.Cut file len ∷ []) }
@@ -251,8 +247,7 @@ impl Disk for MemDisk {
         ensures durable { ⊤ → OnOk result (Only (now_of self.old) (MayLeave self.new)) }
         ensures reads { ⊤ → now_of self.new ≡ now_of self.old }
         ensures left { ⊤ → Within (MayLeave self.new) (MayLeave self.old) }
-        ensures time { ⊤ → Elapses (length (calls_of self.old)) (length (calls_of self.new)) (WasLeft self.old)
-            (WasLeft self.new) (MayLeave self.new) }
+        ensures time { GoesOnIn self.old self.new }
         ensures honest { ⊤ ↔ ⊤ }
         ensures cause { HasCause self.old.failures self.new.failures result }
         ensures remembers { OnOk result (calls_of self.new ≡ calls_of self.old ++ DiskCall.Sync ∷ []) }
