@@ -30,3 +30,23 @@ IsEntryFault entry fault = (fault ≡ DeviceFailed) ⊎ (fault ≡ Damaged entry
 -- what a read of bytes that are there answers: 31 or 70
 abbrev pub IsReadFault : LogFault → Type 0
 IsReadFault fault = (fault ≡ DeviceFailed) ⊎ (fault ≡ OutOfMemory)
+
+-- what a beginning answers: 31, 35 or 70
+abbrev pub IsCreateFault : LogFault → Type 0
+IsCreateFault fault = (fault ≡ DeviceFailed) ⊎ (fault ≡ ThereAlready) ⊎ (fault ≡ OutOfMemory)
+
+-- what the growths of an append answer: 32, 36 or 70
+abbrev pub IsReserveFault : LogFault → Type 0
+IsReserveFault fault = (fault ≡ Failed) ⊎ (fault ≡ LogFull) ⊎ (fault ≡ OutOfMemory)
+
+-- what an append answers: 31, 32, 36 or 70
+abbrev pub IsAppendFault : LogFault → Type 0
+IsAppendFault fault = (fault ≡ DeviceFailed) ⊎ IsReserveFault fault
+
+-- what a call that needs memory answers of a log whose disk is honest: 31, 32 or 70
+abbrev pub IsLogFault : LogFault → Type 0
+IsLogFault fault = (fault ≡ DeviceFailed) ⊎ (fault ≡ Failed) ⊎ (fault ≡ OutOfMemory)
+
+-- what a read of an entry answers: 31, 32, 33 with its number, or 70
+abbrev pub IsReadingFault : ℕ → LogFault → Type 0
+IsReadingFault entry fault = (fault ≡ DeviceFailed) ⊎ (fault ≡ Failed) ⊎ (fault ≡ Damaged entry) ⊎ (fault ≡ OutOfMemory)

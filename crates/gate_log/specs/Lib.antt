@@ -6,6 +6,7 @@ pub mod Slots
 pub mod Standing
 pub mod StandingLaws
 pub mod Looks
+pub mod Recovered
 pub mod Upgrade
 pub mod Verdicts
 pub mod Version

@@ -1,10 +1,13 @@
 -- Which entries stand in an image.
-use Rattle.std.specs.Prelude.{◌≡◌, ◌≢◌, ◌⊎◌, ◌<◌, ◌≤◌, ◌+◌, ◌^◌, ℕ, List, [], ◌∷◌, ◌++◌, length, get_or}
+use Rattle.std.specs.Prelude.{◌≡◌, ◌≢◌, ◌⊎◌, ◌<◌, ◌≤◌, ◌+◌, ◌^◌, ℕ, List, [], ◌∷◌, ◌++◌, Result, IsErrOf, length, take, drop, get_or}
 use Rattle.fleet_disk.specs.Image.{Image}
+use Rattle.fleet_disk.specs.declared.disk.Disk.{Ghosts}
+use Rattle.gate_log.specs.declared.fault.LogFault.{LogFault}
+use Rattle.gate_log.specs.declared.fault.LogFault.TheVariants.{Damaged, NoRepository}
 use Rattle.gate_log.specs.declared.version.LogVersion.{LogVersion}
 use Rattle.gate_log.specs.declared.version.LogVersion.TheVariants.{First, Second}
 use Rattle.gate_log.specs.Version.{gates_of, others_of, IsBegun, IsOf}
-use Rattle.gate_log.specs.Slots.{part, mark, slots, gate_place}
+use Rattle.gate_log.specs.Slots.{part, mark, slots, gate_place, gates_size}
 
 -- the journal's length behind the last entry, where the first begins at `from`
 abbrev pub last_end : ℕ → List ℕ → ℕ
@@ -20,6 +23,10 @@ IsRising from (end ∷ ends) = (from < end) × IsRising end ends
 abbrev pub parts : ℕ → List ℕ → List ℕ → List (List ℕ)
 parts from [] journal = []
 parts from (end ∷ ends) journal = part from end journal ∷ parts end ends journal
+
+-- the ends with one more entry's behind them
+abbrev pub ends_with : List ℕ → List ℕ → List ℕ
+ends_with ends entry = ends ++ (last_end 0 ends + length entry) ∷ []
 
 -- Entries with these ends stand: their gates are open, their lengths rise and stay within the journal, their sums are theirs, and the next gate is there and closed.
 pub record StandsAt (version : LogVersion) (ends : List ℕ) (image : Image) : Type 0 where
@@ -70,6 +77,18 @@ pub record IsSlot (version : LogVersion) (from end : ℕ) (journal behind : List
   pub rest : List ℕ
   pub bytes : behind ≡ mark version end (part from end journal) ++ next_gate ∷ rest
 
+-- the gate at this place is open
+abbrev pub IsOpenAt : LogVersion → ℕ → Image → Type 0
+IsOpenAt version at image = get_or (gates_of version image) at 0 ≡ 1
+
+-- a slot stands at this place of the gates
+abbrev pub IsSlotAt : LogVersion → ℕ → ℕ → ℕ → Image → Type 0
+IsSlotAt version at from end image = IsSlot version from end image.journal (drop (at + 1) (gates_of version image))
+
+-- no slot stands at this place of the gates, whatever its end
+abbrev pub NoSlotAt : LogVersion → ℕ → ℕ → Image → Type 0
+NoSlotAt version at from image = (end : ℕ) → IsSlotAt version at from end image → ⊥
+
 -- the entry of this number is the first whose length, sum or next gate breaks the format
 pub record IsDamagedAt (entry : ℕ) (image : Image) : Type 0 where
   pub version : LogVersion
@@ -99,3 +118,35 @@ StandsAlike first image = (entries : List (List ℕ)) × Stands first entries ×
 abbrev pub IsCleared : LogVersion → Image → Image → Type 0
 IsCleared First old new = new.slots ≡ old.slots
 IsCleared Second old new = new.gate ≡ []
+
+-- what is behind the entries is cut
+abbrev pub IsCutBack : LogVersion → List ℕ → Image → Image → Type 0
+IsCutBack version ends old new = (new.journal ≡ take (last_end 0 ends) old.journal)
+    × (gates_of version new ≡ take (gates_size version (length ends)) (gates_of version old))
+    × IsCleared version old new
+
+-- these bytes are behind the journal, with their slot and a closed gate, and the other file is as it was
+abbrev pub IsAdded : LogVersion → List ℕ → List ℕ → Image → Image → Type 0
+IsAdded version ends entry old new = (new.journal ≡ old.journal ++ entry)
+    × (gates_of version new ≡ slots version 0 ends new.journal ++ 0 ∷ [])
+    × (others_of version new ≡ others_of version old)
+
+-- P of whatever entries stand in an image, where there are some
+abbrev pub OfEntries : Image → (List (List ℕ) → Type 0) → Type 0
+OfEntries image P = (entries : List (List ℕ)) → Stands image entries → 0 < length entries → P entries
+
+-- 33 comes with the first entry of an honest disk that breaks the format
+abbrev pub FindsDamage : {D T : Type 0} → Ghosts D → D → Result T LogFault → Type 0
+FindsDamage G disk result = G.honest disk → (entry : ℕ) → IsErrOf result (Damaged entry) → IsDamagedAt entry (G.reads disk)
+
+-- 34 comes where an honest disk has no entry
+abbrev pub FindsNone : {D T : Type 0} → Ghosts D → D → Result T LogFault → Type 0
+FindsNone G disk result = G.honest disk → IsErrOf result NoRepository → HasNoEntry (G.reads disk)
+
+-- nothing but the closed first gate of the second version is there
+abbrev pub IsJustBegun : Image → Type 0
+IsJustBegun image = (image.journal ≡ []) × (image.gate ≡ []) × (image.slots ≡ 0 ∷ [])
+
+-- where some entries end, and the gates have room for their slots
+abbrev pub AreEnds : LogVersion → List ℕ → Type 0
+AreEnds version ends = (0 < length ends) × IsRising 0 ends × (gates_size version (length ends) < 2 ^ 64)

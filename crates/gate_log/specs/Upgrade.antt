@@ -1,8 +1,10 @@
 -- The images of an upgrade to the second version.
-use Rattle.std.specs.Prelude.{◌≡◌, ◌⊎◌, ◌<◌, ℕ, List, [], ◌∷◌, drop}
+use Rattle.std.specs.Prelude.{◌≡◌, ◌⊎◌, ◌<◌, ℕ, List, [], ◌∷◌, ◌++◌, drop}
 use Rattle.fleet_disk.specs.Image.{Image}
 use Rattle.gate_log.specs.declared.fault.LogFault.{LogFault}
 use Rattle.gate_log.specs.declared.fault.LogFault.TheVariants.{DeviceFailed, Damaged, OutOfMemory}
+use Rattle.gate_log.specs.declared.version.LogVersion.TheVariants.{Second}
+use Rattle.gate_log.specs.Slots.{slots}
 use Rattle.gate_log.specs.Version.{IsBegun}
 
 -- the journal and `gate` as they were, and `slots` not begun
@@ -33,3 +35,8 @@ pub record IsSwitched (old new : Image) : Type 0 where
 -- why a log of so many entries isn't upgraded: 31, 70, and of a disk that isn't honest 33
 abbrev pub IsMigrationFault : ℕ → LogFault → Type 0
 IsMigrationFault count fault = (fault ≡ DeviceFailed) ⊎ (fault ≡ OutOfMemory) ⊎ ((entry : ℕ) × (entry < count) × (fault ≡ Damaged entry))
+
+-- the journal as it was, `gate` empty, and in `slots` the entries with these ends and a closed gate behind them
+abbrev pub IsUpgraded : List ℕ → Image → Image → Type 0
+IsUpgraded ends old new = (new.journal ≡ old.journal) × (new.gate ≡ [])
+    × (new.slots ≡ slots Second 0 ends old.journal ++ 0 ∷ [])

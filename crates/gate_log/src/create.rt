@@ -1,11 +1,11 @@
 //! The device calls that begin a log.
-ghost use Rattle.std.specs.Prelude.{◌≡◌, ◌≢◌, ◌⊎◌, ◌<◌, ◌≤◌, ◌∷◌, ◌↔◌, [], IfErr, OnOk, OnErr};
+ghost use Rattle.std.specs.Prelude.{◌≡◌, ◌≢◌, ◌⊎◌, ◌<◌, [], IfErr, OnOk, OnErr};
 ghost use Rattle.std.specs.Prelude.{IsErrOf};
 ghost use Rattle.fleet_disk.specs.Image.{no_bytes};
 ghost use Rattle.fleet_disk.specs.Rules.{Only};
-ghost use Rattle.gate_log.specs.Device.{IsFailure, IsSafe, Leaves};
+ghost use Rattle.gate_log.specs.Device.{ActsFor, EndsSafe, Leaves, Turns};
 ghost use Rattle.gate_log.specs.Looks.{Looks};
-ghost use Rattle.gate_log.specs.Standing.{IsAtRest, IsBlank};
+ghost use Rattle.gate_log.specs.Standing.{IsAtRest, IsBlank, IsJustBegun};
 ghost use Rattle.gate_log.specs.declared.fault.LogFault.TheVariants.{DeviceFailed, ThereAlready};
 ghost use Rattle.gate_log.specs.declared.version.LogVersion.TheVariants.{Second};
 
@@ -18,20 +18,16 @@ use fleet_disk::{Disk, DiskFile};
 // it is.
 pub fn begin<D: Disk>(disk: &mut D) -> Result<(), LogFault>
     ensures empty { D.honest disk.old → OnOk result (D.reads disk.old ≡ no_bytes) }
-    ensures at_rest { D.honest disk.old → OnOk result (IsAtRest Second [] (D.reads disk.new)) }
-    ensures durable { D.honest disk.old → OnOk result (IsSafe D.Disk disk.new) }
-    ensures journal { D.honest disk.old → OnOk result ((D.reads disk.new).journal ≡ []) }
-    ensures gate { D.honest disk.old → OnOk result ((D.reads disk.new).gate ≡ []) }
-    ensures slots { D.honest disk.old → OnOk result ((D.reads disk.new).slots ≡ 0 ∷ []) }
+    ensures at_rest { Turns D.Disk disk.old disk.new result (λ old. IsAtRest Second []) }
+    ensures durable { EndsSafe D.Disk disk.old disk.new result }
+    ensures files { Turns D.Disk disk.old disk.new result (λ old. IsJustBegun) }
     ensures any_moment { D.honest disk.old → Only no_bytes (D.may_leave disk.old)
         → Leaves D.Disk disk.old disk.new IsBlank }
     ensures there { D.honest disk.old → IsErrOf result ThereAlready → D.reads disk.old ≢ no_bytes }
     ensures looks { D.honest disk.old → D.reads disk.old ≢ no_bytes
         → OnErr result (Looks D.Disk disk.old disk.new) }
-    ensures device { IsFailure D.Disk disk.old disk.new result }
+    ensures acts { ActsFor D.Disk disk.old disk.new result }
     ensures no_other { IfErr result (λ e. (e ≡ DeviceFailed) ⊎ (e ≡ ThereAlready)) }
-    ensures honest { D.honest disk.old ↔ D.honest disk.new }
-    ensures later { D.failures disk.old ≤ D.failures disk.new }
 {
     let journal = length_of(disk, DiskFile::Journal)?;
     let gate = length_of(disk, DiskFile::Gate)?;

@@ -1,15 +1,15 @@
 //! Which entries stand on a disk.
-ghost use Rattle.std.specs.Prelude.{◌≡◌, ◌≢◌, ◌<◌, ◌≤◌, ◌+◌, ◌^◌, ◌↔◌, ℕ, IsTrue, length, take, drop, get_or};
-ghost use Rattle.std.specs.Prelude.{None, IfOk, IfErr, IfSome, IsErrOf};
+ghost use Rattle.std.specs.Prelude.{◌≡◌, ◌<◌, ◌≤◌, ◌+◌, ◌^◌, ◌↔◌, IsTrue, length, take, drop, get_or};
+ghost use Rattle.std.specs.Prelude.{IfOk, IfErr, IfSome, IsErrOf};
 ghost use Rattle.fleet_disk.specs.Image.{bytes_of};
-ghost use Rattle.gate_log.specs.Device.{IsCaused, IsFailure};
+ghost use Rattle.gate_log.specs.Device.{Tells};
 ghost use Rattle.gate_log.specs.Faults.{IsFindFault, IsEntryFault};
-ghost use Rattle.gate_log.specs.Lengths.{AreLengths};
-ghost use Rattle.gate_log.specs.Looks.{Looks};
-ghost use Rattle.gate_log.specs.Slots.{eight_bytes, gates_size, slot_size};
-ghost use Rattle.gate_log.specs.Standing.{IsRising, StandsAt, HasNoEntry, IsDamagedAt, IsSlot};
-ghost use Rattle.gate_log.specs.Version.{gates_of, IsOf};
-ghost use Rattle.gate_log.specs.declared.fault.LogFault.TheVariants.{Damaged, NoRepository};
+ghost use Rattle.gate_log.specs.Lengths.{AreLengths, EndsWithin, IsNext, OfLengths};
+ghost use Rattle.gate_log.specs.Looks.{LooksFor, LooksOn};
+ghost use Rattle.gate_log.specs.Slots.{eight_bytes};
+ghost use Rattle.gate_log.specs.Standing.{AreEnds, FindsDamage, FindsNone, IsOpenAt, IsSlotAt, NoSlotAt, StandsAt};
+ghost use Rattle.gate_log.specs.Version.{IsOf};
+ghost use Rattle.gate_log.specs.declared.fault.LogFault.TheVariants.{Damaged};
 
 use crate::fault::LogFault;
 use crate::reads::{length_of, read_full};
@@ -35,8 +35,7 @@ fn gate_is_open<D: Disk>(disk: &mut D, file: DiskFile, at: u64) -> Result<bool, 
     requires { at + 1 < 2 ^ 64 }
     ensures open { D.honest disk.old → at < length (bytes_of file (D.reads disk.old))
         → IfOk result (λ is_open. IsTrue is_open ↔ (get_or (bytes_of file (D.reads disk.old)) at 0 ≡ 1)) }
-    ensures looks { Looks D.Disk disk.old disk.new }
-    ensures cause { IsCaused D.Disk disk.old disk.new result }
+    ensures looks { LooksOn D.Disk disk.old disk.new result }
 {
     let mut gate = [CLOSED; 1];
     read_full(disk, file, at, &mut gate)?;
@@ -49,8 +48,7 @@ fn read_length<D: Disk>(disk: &mut D, file: DiskFile, at: u64) -> Result<u64, Di
     requires { at + 8 < 2 ^ 64 }
     ensures length { D.honest disk.old → at + 8 ≤ length (bytes_of file (D.reads disk.old))
         → IfOk result (λ end. take 8 (drop at (bytes_of file (D.reads disk.old))) ≡ eight_bytes end) }
-    ensures looks { Looks D.Disk disk.old disk.new }
-    ensures cause { IsCaused D.Disk disk.old disk.new result }
+    ensures looks { LooksOn D.Disk disk.old disk.new result }
 {
     let mut length = [CLOSED; LENGTH_BYTES];
     read_full(disk, file, at, &mut length)?;
@@ -59,9 +57,8 @@ fn read_length<D: Disk>(disk: &mut D, file: DiskFile, at: u64) -> Result<u64, Di
 
 // Which version a disk has. It reads and changes nothing.
 pub fn find_version<D: Disk>(disk: &mut D) -> Result<LogVersion, DiskFault>
-    ensures is { D.honest disk.old → IfOk result (λ version. IsOf version (D.reads disk.old)) }
-    ensures looks { Looks D.Disk disk.old disk.new }
-    ensures cause { IsCaused D.Disk disk.old disk.new result }
+    ensures is { Tells D.Disk disk.old result IsOf }
+    ensures looks { LooksOn D.Disk disk.old disk.new result }
 {
     let slots = length_of(disk, DiskFile::Slots)?;
     if slots == 0 {
@@ -107,18 +104,13 @@ fn slot_end<D: Disk>(
     start: u64,
 ) -> Result<u64, LogFault>
     requires { at < lengths.now.gates }
-    ensures slot { D.honest disk.old → AreLengths lengths.now (D.reads disk.old)
-        → IfOk result (λ end. IsSlot lengths.now.version start end (D.reads disk.old).journal
-        (drop (at + 1) (gates_of lengths.now.version (D.reads disk.old)))) }
-    ensures order { IfOk result (λ end. start < end) }
-    ensures within { IfOk result (λ end. end ≤ lengths.now.journal) }
-    ensures room { IfOk result (λ end. at + slot_size lengths.now.version < lengths.now.gates) }
-    ensures damaged { D.honest disk.old → AreLengths lengths.now (D.reads disk.old) → IsErrOf result (Damaged entry)
-        → (end : ℕ) → IsSlot lengths.now.version start end (D.reads disk.old).journal
-        (drop (at + 1) (gates_of lengths.now.version (D.reads disk.old))) → ⊥ }
-    ensures device { IsFailure D.Disk disk.old disk.new result }
+    ensures slot { OfLengths D.Disk disk.old lengths.now (λ image. IfOk result (λ end. IsSlotAt lengths.now.version at
+        start end image)) }
+    ensures bounds { IfOk result (EndsWithin lengths.now at start) }
+    ensures damaged { OfLengths D.Disk disk.old lengths.now (λ image. IsErrOf result (Damaged entry) → NoSlotAt
+        lengths.now.version at start image) }
     ensures no_other { IfErr result (IsEntryFault entry) }
-    ensures looks { Looks D.Disk disk.old disk.new }
+    ensures looks { LooksFor D.Disk disk.old disk.new result }
 {
     let version = lengths.version;
     if lengths.gates - at < slot_bytes(version) + GATE_BYTES {
@@ -147,23 +139,12 @@ fn next_end<D: Disk>(
 ) -> Result<Option<u64>, LogFault>
     requires inside { at < lengths.now.gates }
     requires room { at + 1 < 2 ^ 64 }
-    ensures closed { D.honest disk.old → AreLengths lengths.now (D.reads disk.old) → IfOk result (λ found. found ≡ None
-        → get_or (gates_of lengths.now.version (D.reads disk.old)) at 0 ≢ 1) }
-    ensures open { D.honest disk.old → AreLengths lengths.now (D.reads disk.old) → IfOk result (λ found. IfSome found
-        (λ end. get_or (gates_of lengths.now.version (D.reads disk.old)) at 0 ≡ 1)) }
-    ensures slot { D.honest disk.old → AreLengths lengths.now (D.reads disk.old) → IfOk result (λ found. IfSome found
-        (λ end. IsSlot lengths.now.version start end (D.reads disk.old).journal
-        (drop (at + 1) (gates_of lengths.now.version (D.reads disk.old))))) }
-    ensures order { IfOk result (λ found. IfSome found (λ end. start < end)) }
-    ensures within { IfOk result (λ found. IfSome found (λ end. end ≤ lengths.now.journal)) }
-    ensures room { IfOk result (λ found. IfSome found (λ end. at + slot_size lengths.now.version < lengths.now.gates)) }
-    ensures damaged { D.honest disk.old → AreLengths lengths.now (D.reads disk.old) → IsErrOf result (Damaged entry)
-        → (get_or (gates_of lengths.now.version (D.reads disk.old)) at 0 ≡ 1)
-        × ((end : ℕ) → IsSlot lengths.now.version start end (D.reads disk.old).journal
-        (drop (at + 1) (gates_of lengths.now.version (D.reads disk.old))) → ⊥) }
-    ensures device { IsFailure D.Disk disk.old disk.new result }
+    ensures found { OfLengths D.Disk disk.old lengths.now (λ image. IfOk result (IsNext lengths.now.version at start image)) }
+    ensures bounds { IfOk result (λ found. IfSome found (EndsWithin lengths.now at start)) }
+    ensures damaged { OfLengths D.Disk disk.old lengths.now (λ image. IsErrOf result (Damaged entry) → IsOpenAt
+        lengths.now.version at image × NoSlotAt lengths.now.version at start image) }
     ensures no_other { IfErr result (IsEntryFault entry) }
-    ensures looks { Looks D.Disk disk.old disk.new }
+    ensures looks { LooksFor D.Disk disk.old disk.new result }
 {
     let is_open = gate_is_open(disk, gates_file(lengths.version), at)?;
     if !is_open {
@@ -184,17 +165,12 @@ pub fn find_ends<D: Disk>(
 ) -> Result<Vec<u64>, LogFault>
     requires lengths { D.honest disk.old → AreLengths lengths.now (D.reads disk.old) }
     requires is { D.honest disk.old → IsOf lengths.now.version (D.reads disk.old) }
-    ensures stands { D.honest disk.old
-        → IfOk result (λ ends. StandsAt lengths.now.version ends.items (D.reads disk.old)) }
-    ensures some { IfOk result (λ ends. 0 < length ends.items) }
-    ensures rising { IfOk result (λ ends. IsRising 0 ends.items) }
-    ensures room { IfOk result (λ ends. gates_size lengths.now.version (length ends.items) < 2 ^ 64) }
-    ensures damaged { D.honest disk.old → (entry : ℕ) → IsErrOf result (Damaged entry)
-        → IsDamagedAt entry (D.reads disk.old) }
-    ensures missing { D.honest disk.old → IsErrOf result NoRepository → HasNoEntry (D.reads disk.old) }
-    ensures device { IsFailure D.Disk disk.old disk.new result }
+    ensures stands { Tells D.Disk disk.old result (λ ends. StandsAt lengths.now.version ends.items) }
+    ensures ends { IfOk result (λ ends. AreEnds lengths.now.version ends.items) }
+    ensures damaged { FindsDamage D.Disk disk.old result }
+    ensures missing { FindsNone D.Disk disk.old result }
     ensures no_other { IfErr result IsFindFault }
-    ensures looks { Looks D.Disk disk.old disk.new }
+    ensures looks { LooksFor D.Disk disk.old disk.new result }
 {
     let Lengths { gates, .. } = *lengths;
     let mut ends = Vec::new(alloc);
@@ -222,9 +198,8 @@ pub fn find_ends<D: Disk>(
 // How long the journal and the file of the gates are.
 pub fn lengths_of<D: Disk>(disk: &mut D, version: LogVersion) -> Result<Lengths, DiskFault>
     ensures version { IfOk result (λ lengths. lengths.version ≡ version) }
-    ensures lengths { D.honest disk.old → IfOk result (λ lengths. AreLengths lengths (D.reads disk.old)) }
-    ensures looks { Looks D.Disk disk.old disk.new }
-    ensures cause { IsCaused D.Disk disk.old disk.new result }
+    ensures lengths { Tells D.Disk disk.old result AreLengths }
+    ensures looks { LooksOn D.Disk disk.old disk.new result }
 {
     let journal = length_of(disk, DiskFile::Journal)?;
     let gates = length_of(disk, gates_file(version))?;

@@ -1,18 +1,18 @@
 //! The log.
-ghost use Rattle.std.specs.Prelude.{◌≡◌, ◌≢◌, ◌⊎◌, ◌<◌, ◌≤◌, ◌+◌, ◌^◌, ◌++◌, ◌∷◌, ◌↔◌, [], List, ℕ, false};
-ghost use Rattle.std.specs.Prelude.{length, take, slice_get, Some, IsTrue, IfOk, IfErr, OnOk, OnErr, IsErrOf};
+ghost use Rattle.std.specs.Prelude.{◌≡◌, ◌≢◌, ◌⊎◌, ◌<◌, ◌≤◌, ◌+◌, ◌^◌, ◌++◌, ◌∷◌, ◌↔◌, [], ℕ, false};
+ghost use Rattle.std.specs.Prelude.{length, slice_get, Some, IsTrue, IfOk, IfErr, OnOk, OnErr, IsErrOf};
 ghost use Rattle.std.proofs.Props.{props};
-ghost use Rattle.fleet_disk.specs.Image.{Image, no_bytes};
-ghost use Rattle.fleet_disk.specs.Rules.{Only, Rose, Within};
-ghost use Rattle.gate_log.specs.Device.{IsFailure, IsSafe, Leaves, SettlesAs};
-ghost use Rattle.gate_log.specs.Faults.{IsFindFault, IsReadFault};
+ghost use Rattle.fleet_disk.specs.Image.{no_bytes};
+ghost use Rattle.fleet_disk.specs.Rules.{Only};
+ghost use Rattle.gate_log.specs.Device.{IsFailure, IsSafe, Leaves, LeavesOr, MaySettleAs, SettlesAs};
+ghost use Rattle.gate_log.specs.Faults.{IsAppendFault, IsCreateFault, IsFindFault, IsLogFault, IsReadFault};
+ghost use Rattle.gate_log.specs.Faults.{IsReadingFault, IsReserveFault};
 ghost use Rattle.gate_log.specs.Looks.{Looks};
-ghost use Rattle.gate_log.specs.Slots.{slots, gates_size};
-ghost use Rattle.gate_log.specs.Standing.{last_end, IsRising, IsAtRest, IsEither, IsBlank, IsDamagedAt, Stands};
-ghost use Rattle.gate_log.specs.Standing.{StandsAlike, StandsAs, HasNoEntry, IsCleared};
+ghost use Rattle.gate_log.specs.Standing.{ends_with, IsAdded, IsAtRest, IsBlank, IsCutBack, IsDamagedAt, IsJustBegun, IsRising};
+ghost use Rattle.gate_log.specs.Standing.{IsEither, HasNoEntry, OfEntries, Stands, StandsAlike, StandsAs};
 ghost use Rattle.gate_log.specs.StandingLaws.{rising_prop, rest_prop};
-ghost use Rattle.gate_log.specs.Upgrade.{IsMigrationFault};
-ghost use Rattle.gate_log.specs.Version.{gates_of, others_of, HaveOneVersion, IsOf};
+ghost use Rattle.gate_log.specs.Upgrade.{IsMigrationFault, IsUpgraded};
+ghost use Rattle.gate_log.specs.Version.{HaveOneVersion, IsOf};
 ghost use Rattle.gate_log.specs.declared.fault.LogFault.TheVariants.{Damaged, DeviceFailed, Failed, LogFull, NoRepository, OutOfMemory, ThereAlready};
 ghost use Rattle.gate_log.specs.declared.version.LogVersion.TheVariants.{First, Second};
 
@@ -65,8 +65,9 @@ impl Receipt {
 }
 
 impl<D: Disk> GateLog<D> {
-    ghost use Rattle.gate_log.specs.Log.{disk_of, version_of, ends_of, size_of, entries_of, entry_of, HasFailed};
-    ghost use Rattle.gate_log.specs.Log.{HasRoom, LooksIn};
+    ghost use Rattle.gate_log.specs.Log.{disk_left, disk_of, version_of, ends_of, size_of, entries_of, entry_of, image_of};
+    ghost use Rattle.gate_log.specs.Log.{FailsBy, FailsOf, HasFailed, HasRoom, IsFull, IsHonest, IsUntouched, Lasts, WhileWorking};
+    ghost use Rattle.gate_log.specs.Log.{LeavesAfter, LeavesBetween, LooksIn};
 
     /// Begins a log without entries, of the second version, on a disk of empty files. Until it has answered Ok a stop
     /// leaves no entry and one gate at most, of any value, so that an opening answers NoRepository (34). The first append
@@ -76,28 +77,20 @@ impl<D: Disk> GateLog<D> {
     pub fn create(alloc: Global, disk: D) -> Result<GateLog<D>, (LogFault, D)>
         ensures empty { D.honest disk → OnOk result (D.reads disk ≡ no_bytes) }
         ensures entries { IfOk result (λ log. (ends_of log ≡ []) × ¬ HasFailed log) }
-        ensures files { D.honest disk → IfOk result
-            (λ log. ((D.reads (disk_of log)).journal ≡ []) × ((D.reads (disk_of log)).gate ≡ [])
-            × ((D.reads (disk_of log)).slots ≡ 0 ∷ [])) }
+        ensures files { D.honest disk → IfOk result (λ log. IsJustBegun (image_of log)) }
         ensures version { IfOk result (λ log. version_of log ≡ Second) }
-        ensures durable { D.honest disk → IfOk result
-            (λ log. (image : Image) → D.may_leave (disk_of log) image → Stands image []) }
+        ensures durable { D.honest disk → IfOk result (λ log. LeavesAfter log (λ c. Stands c [])) }
         ensures there { D.honest disk → IfErr result (λ e. e.0 ≡ ThereAlready → D.reads disk ≢ no_bytes) }
         ensures looks { D.honest disk → D.reads disk ≢ no_bytes
             → IfErr result (λ e. Looks D.Disk disk e.1) }
-        ensures device { IfErr result (λ e. e.0 ≡ DeviceFailed → Rose (D.failures disk) (D.failures e.1)) }
+        ensures device { FailsOf D.Disk disk result }
         ensures memory { IfErr result (λ e. e.0 ≡ OutOfMemory → e.1 ≡ disk) }
         ensures room { IfOk result HasRoom }
-        ensures no_other { IfErr result (λ e. (e.0 ≡ DeviceFailed) ⊎ (e.0 ≡ ThereAlready)
-            ⊎ (e.0 ≡ OutOfMemory)) }
-        ensures any_moment { D.honest disk → Only no_bytes (D.may_leave disk) → IfOk result
-            (λ log. Leaves D.Disk disk (disk_of log) IsBlank) }
-        ensures any_moment_err { D.honest disk → Only no_bytes (D.may_leave disk) → IfErr result
-            (λ e. Leaves D.Disk disk e.1 IsBlank) }
-        ensures honest { IfOk result (λ log. D.honest disk ↔ D.honest (disk_of log)) }
-        ensures honest_err { IfErr result (λ e. D.honest disk ↔ D.honest e.1) }
-        ensures later { IfOk result (λ log. D.failures disk ≤ D.failures (disk_of log)) }
-        ensures later_err { IfErr result (λ e. D.failures disk ≤ D.failures e.1) }
+        ensures no_other { IfErr result (λ e. IsCreateFault e.0) }
+        ensures any_moment { D.honest disk → Only no_bytes (D.may_leave disk) → Leaves D.Disk disk (disk_left result)
+            IsBlank }
+        ensures honest { D.honest disk ↔ D.honest (disk_left result) }
+        ensures later { D.failures disk ≤ D.failures (disk_left result) }
     {
         let Ok(ends) = Vec::with_capacity(alloc, 1) else {
             return Err((LogFault::OutOfMemory, disk));
@@ -122,46 +115,33 @@ impl<D: Disk> GateLog<D> {
     /// moment left what it could leave before. At no moment of an opening does a stop leave another version than that of
     /// what a read gave, but for what it could leave before.
     pub fn open(alloc: Global, disk: D) -> Result<GateLog<D>, (LogFault, D)>
-        ensures found { D.honest disk → (entries : List (List ℕ)) → Stands (D.reads disk) entries → 0 < length entries
-            → IfOk result (λ log. entries_of log ≡ entries) }
-        ensures refused { D.honest disk → (entries : List (List ℕ)) → Stands (D.reads disk) entries → 0 < length entries
-            → IfErr result (λ e. (e.0 ≡ DeviceFailed) ⊎ (e.0 ≡ OutOfMemory)) }
+        ensures found { D.honest disk → OfEntries (D.reads disk) (λ entries. IfOk result (λ log. entries_of log ≡
+            entries)) }
+        ensures refused { D.honest disk → OfEntries (D.reads disk) (λ entries. IfErr result (λ e. IsReadFault e.0)) }
         ensures stands { D.honest disk → IfOk result (λ log. Stands (D.reads disk) (entries_of log)) }
         ensures some { IfOk result (λ log. (0 < length (entries_of log)) × ¬ HasFailed log) }
-        ensures files { D.honest disk → IfOk result
-            (λ log. ((D.reads (disk_of log)).journal ≡ take (size_of log) (D.reads disk).journal)
-            × (gates_of (version_of log) (D.reads (disk_of log))
-            ≡ take (gates_size (version_of log) (length (ends_of log))) (gates_of (version_of log) (D.reads disk)))
-            × IsCleared (version_of log) (D.reads disk) (D.reads (disk_of log))) }
+        ensures files { D.honest disk → IfOk result (λ log. IsCutBack (version_of log) (ends_of log) (D.reads disk)
+            (image_of log)) }
         ensures version { D.honest disk → IfOk result (λ log. IsOf (version_of log) (D.reads disk)) }
-        ensures durable { D.honest disk → IfOk result
-            (λ log. (image : Image) → D.may_leave (disk_of log) image → Stands image (entries_of log)) }
+        ensures durable { D.honest disk → IfOk result Lasts }
         ensures damaged { D.honest disk → (entry : ℕ) → IfErr result
             (λ e. e.0 ≡ Damaged entry → IsDamagedAt entry (D.reads disk)) }
         ensures missing { D.honest disk → IfErr result (λ e. e.0 ≡ NoRepository → HasNoEntry (D.reads disk)) }
-        ensures device { IfErr result (λ e. e.0 ≡ DeviceFailed → Rose (D.failures disk) (D.failures e.1)) }
+        ensures device { FailsOf D.Disk disk result }
         ensures no_other { IfErr result (λ e. IsFindFault e.0) }
-        ensures any_moment { D.honest disk → IfOk result (λ log. Leaves D.Disk disk (disk_of log)
-            (λ c. D.may_leave disk c ⊎ StandsAlike (D.reads disk) c)) }
-        ensures any_moment_err { D.honest disk → IfErr result (λ e. Leaves D.Disk disk e.1
-            (λ c. D.may_leave disk c ⊎ StandsAlike (D.reads disk) c)) }
-        ensures version_stays { D.honest disk → IfOk result (λ log. Leaves D.Disk disk (disk_of log)
-            (λ c. D.may_leave disk c ⊎ HaveOneVersion (D.reads disk) c)) }
-        ensures version_stays_err { D.honest disk → IfErr result (λ e. Leaves D.Disk disk e.1
-            (λ c. D.may_leave disk c ⊎ HaveOneVersion (D.reads disk) c)) }
+        ensures any_moment { D.honest disk → LeavesOr D.Disk disk (disk_left result) (StandsAlike (D.reads disk)) }
+        ensures version_stays { D.honest disk → LeavesOr D.Disk disk (disk_left result) (HaveOneVersion (D.reads
+            disk)) }
         ensures settles { D.honest disk → IfOk result
             (λ log. SettlesAs D.Disk disk (disk_of log) (StandsAs (D.reads disk))) }
-        ensures settles_err { D.honest disk → IfErr result
-            (λ e. Leaves D.Disk disk e.1 (D.may_leave disk)
-            ⊎ SettlesAs D.Disk disk e.1 (StandsAs (D.reads disk))) }
+        ensures settles_err { D.honest disk → IfErr result (λ e. MaySettleAs D.Disk disk e.1 (StandsAs (D.reads
+            disk))) }
         ensures kept { D.honest disk → IfErr result
             (λ e. (e.0 ≡ DeviceFailed) ⊎ Only (D.reads disk) (D.may_leave e.1)) }
         ensures looks { D.honest disk → IfErr result (λ e. (e.0 ≡ DeviceFailed)
             ⊎ Looks D.Disk disk e.1) }
-        ensures honest { IfOk result (λ log. D.honest disk ↔ D.honest (disk_of log)) }
-        ensures honest_err { IfErr result (λ e. D.honest disk ↔ D.honest e.1) }
-        ensures later { IfOk result (λ log. D.failures disk ≤ D.failures (disk_of log)) }
-        ensures later_err { IfErr result (λ e. D.failures disk ≤ D.failures e.1) }
+        ensures honest { D.honest disk ↔ D.honest (disk_left result) }
+        ensures later { D.failures disk ≤ D.failures (disk_left result) }
     {
         let mut disk = disk;
         match recover(alloc, &mut disk) {
@@ -180,8 +160,7 @@ impl<D: Disk> GateLog<D> {
     pub fn len(&self) -> u64
         ensures count { result ≡ length (ends_of self.now) }
         ensures entries { result ≡ length (entries_of self.now) }
-        ensures stand { D.honest (disk_of self.now) → ¬ HasFailed self.now → (image : Image)
-            → D.may_leave (disk_of self.now) image → Stands image (entries_of self.now) }
+        ensures stand { WhileWorking self.now (Lasts self.now) }
     {
         self.ends.len() as u64
     }
@@ -189,8 +168,7 @@ impl<D: Disk> GateLog<D> {
     /// Its layout. While no call has failed, each image that a stop may leave has that.
     pub fn version(&self) -> LogVersion
         ensures version { result ≡ version_of self.now }
-        ensures stand { D.honest (disk_of self.now) → ¬ HasFailed self.now → (image : Image)
-            → D.may_leave (disk_of self.now) image → IsOf result image }
+        ensures stand { WhileWorking self.now (LeavesAfter self.now (IsOf result)) }
     {
         self.version
     }
@@ -234,10 +212,9 @@ impl<D: Disk> GateLog<D> {
         ensures version { version_of self.new ≡ version_of self.old }
         ensures working { HasFailed self.new ↔ HasFailed self.old }
         ensures failed { IsErrOf result Failed ↔ HasFailed self.old }
-        ensures full { IsErrOf result LogFull ↔ (¬ HasFailed self.old × (2 ^ 56 < size_of self.old + count)) }
+        ensures full { IsErrOf result LogFull ↔ IsFull self.old count }
         ensures memory { IsErrOf result OutOfMemory → ¬ HasRoom self.old }
-        ensures no_other { IfErr result (λ e. (e ≡ Failed) ⊎ (e ≡ LogFull)
-            ⊎ (e ≡ OutOfMemory)) }
+        ensures no_other { IfErr result IsReserveFault }
     {
         if self.failed {
             return Err(LogFault::Failed);
@@ -257,43 +234,31 @@ impl<D: Disk> GateLog<D> {
     pub fn append(&mut self, bytes: &[u8]) -> Result<Receipt, LogFault>
         requires { 0 < length bytes.now }
 
-        ensures added { D.honest (disk_of self.old)
-            → OnOk result (entries_of self.new ≡ entries_of self.old ++ bytes.now ∷ []) }
-        ensures ends { OnOk result (ends_of self.new ≡ ends_of self.old ++ (size_of self.old + length bytes.now) ∷ []) }
-        ensures files { D.honest (disk_of self.old)
-            → OnOk result (((D.reads (disk_of self.new)).journal ≡ (D.reads (disk_of self.old)).journal ++ bytes.now)
-            × (gates_of (version_of self.old) (D.reads (disk_of self.new))
-            ≡ slots (version_of self.old) 0 (ends_of self.new) (D.reads (disk_of self.new)).journal ++ 0 ∷ [])
-            × (others_of (version_of self.old) (D.reads (disk_of self.new))
-            ≡ others_of (version_of self.old) (D.reads (disk_of self.old)))) }
+        ensures added { IsHonest self.old → OnOk result (entries_of self.new ≡ entries_of self.old ++ bytes.now ∷ []) }
+        ensures ends { OnOk result (ends_of self.new ≡ ends_with (ends_of self.old) bytes.now) }
+        ensures files { IsHonest self.old → OnOk result (IsAdded (version_of self.old) (ends_of self.new) bytes.now
+            (image_of self.old) (image_of self.new)) }
         ensures version { version_of self.new ≡ version_of self.old }
         ensures receipt { IfOk result (λ receipt. entry_of receipt ≡ length (entries_of self.old)) }
-        ensures durable { D.honest (disk_of self.old)
-            → OnOk result ((image : Image) → D.may_leave (disk_of self.new) image
-            → Stands image (entries_of self.old ++ bytes.now ∷ [])) }
-        ensures any_moment { D.honest (disk_of self.old) → ¬ HasFailed self.old
-            → Leaves D.Disk (disk_of self.old) (disk_of self.new)
-            (IsEither (entries_of self.old) bytes.now) }
-        ensures any_moment_failed { D.honest (disk_of self.old) → HasFailed self.old
-            → Leaves D.Disk (disk_of self.old) (disk_of self.new)
+        ensures durable { IsHonest self.old → OnOk result (LeavesAfter self.new (λ c. Stands c (entries_of self.old ++
+            bytes.now ∷ []))) }
+        ensures any_moment { WhileWorking self.old (LeavesBetween self.old self.new (IsEither
+            (entries_of self.old) bytes.now)) }
+        ensures any_moment_failed { IsHonest self.old → HasFailed self.old → LeavesBetween self.old self.new
             (D.may_leave (disk_of self.old)) }
-        ensures either { D.honest (disk_of self.old) → IsErrOf result DeviceFailed → (image : Image)
-            → D.may_leave (disk_of self.new) image
-            → IsEither (entries_of self.old) bytes.now image }
+        ensures either { IsHonest self.old → IsErrOf result DeviceFailed → LeavesAfter self.new (IsEither (entries_of
+            self.old) bytes.now) }
 
         ensures device { IsFailure D.Disk (disk_of self.old) (disk_of self.new) result }
         ensures failed { IsErrOf result Failed ↔ HasFailed self.old }
-        ensures full { IsErrOf result LogFull ↔ (¬ HasFailed self.old
-            × (2 ^ 56 < size_of self.old + length bytes.now)) }
+        ensures full { IsErrOf result LogFull ↔ IsFull self.old (length bytes.now) }
         ensures memory { IsErrOf result OutOfMemory → ¬ HasRoom self.old }
-        ensures no_other { IfErr result (λ e. (e ≡ DeviceFailed) ⊎ (e ≡ Failed)
-            ⊎ (e ≡ LogFull) ⊎ (e ≡ OutOfMemory)) }
+        ensures no_other { IfErr result IsAppendFault }
 
         ensures kept { OnErr result (ends_of self.new ≡ ends_of self.old) }
-        ensures untouched { IfErr result (λ e. (e ≡ DeviceFailed)
-            ⊎ ((disk_of self.new ≡ disk_of self.old) × (ends_of self.new ≡ ends_of self.old))) }
-        ensures working { HasFailed self.new ↔ (HasFailed self.old ⊎ IsErrOf result DeviceFailed) }
-        ensures honest { D.honest (disk_of self.old) ↔ D.honest (disk_of self.new) }
+        ensures untouched { IfErr result (λ e. (e ≡ DeviceFailed) ⊎ IsUntouched self.old self.new) }
+        ensures working { FailsBy self.old self.new result }
+        ensures honest { IsHonest self.old ↔ IsHonest self.new }
         ensures later { D.failures (disk_of self.old) ≤ D.failures (disk_of self.new) }
     {
         self.reserve(bytes.len())?;
@@ -311,16 +276,14 @@ impl<D: Disk> GateLog<D> {
     /// honest one; the entries stay as they are.
     pub fn read_entry(&mut self, alloc: Global, entry: u64) -> Result<Vec<u8>, LogFault>
         requires { entry < length (ends_of self.old) }
-        ensures bytes { D.honest (disk_of self.old) → IfOk result
-            (λ bytes. slice_get (entries_of self.old) entry ≡ Some bytes.items) }
+        ensures bytes { IsHonest self.old → IfOk result (λ bytes. slice_get (entries_of self.old) entry ≡ Some
+            bytes.items) }
         ensures looks { LooksIn self.old self.new }
         ensures device { IsFailure D.Disk (disk_of self.old) (disk_of self.new) result }
         ensures failed { IsErrOf result Failed ↔ HasFailed self.old }
-        ensures working { HasFailed self.new ↔ (HasFailed self.old ⊎ IsErrOf result DeviceFailed) }
-        ensures no_other { D.honest (disk_of self.old) → IfErr result
-            (λ e. (e ≡ DeviceFailed) ⊎ (e ≡ Failed) ⊎ (e ≡ OutOfMemory)) }
-        ensures faults { IfErr result (λ e. (e ≡ DeviceFailed) ⊎ (e ≡ Failed)
-            ⊎ (e ≡ Damaged entry) ⊎ (e ≡ OutOfMemory)) }
+        ensures working { FailsBy self.old self.new result }
+        ensures no_other { IsHonest self.old → IfErr result IsLogFault }
+        ensures faults { IfErr result (IsReadingFault entry) }
     {
         if self.failed {
             return Err(LogFault::Failed);
@@ -347,29 +310,24 @@ impl<D: Disk> GateLog<D> {
         ensures count { IfOk result (λ n. version_of self.old ≡ First → n ≡ length (ends_of self.old)) }
         ensures already { version_of self.old ≡ Second → (disk_of self.new ≡ disk_of self.old)
             × IfOk result (λ n. n ≡ 0) }
-        ensures files { D.honest (disk_of self.old) → version_of self.old ≡ First
-            → OnOk result (((D.reads (disk_of self.new)).journal ≡ (D.reads (disk_of self.old)).journal)
-            × ((D.reads (disk_of self.new)).gate ≡ [])
-            × ((D.reads (disk_of self.new)).slots
-            ≡ slots Second 0 (ends_of self.old) (D.reads (disk_of self.old)).journal ++ 0 ∷ [])) }
+        ensures files { IsHonest self.old → version_of self.old ≡ First → OnOk result (IsUpgraded (ends_of self.old)
+            (image_of self.old) (image_of self.new)) }
         ensures ends { ends_of self.new ≡ ends_of self.old }
-        ensures same { D.honest (disk_of self.old) → entries_of self.new ≡ entries_of self.old }
+        ensures same { IsHonest self.old → entries_of self.new ≡ entries_of self.old }
         ensures kept { OnErr result (version_of self.new ≡ version_of self.old) }
-        ensures any_moment { D.honest (disk_of self.old) → ¬ HasFailed self.old
-            → Leaves D.Disk (disk_of self.old) (disk_of self.new)
-            (λ c. Stands c (entries_of self.old)) }
+        ensures any_moment { WhileWorking self.old (LeavesBetween self.old self.new (λ c. Stands c
+            (entries_of self.old))) }
         ensures any_moment_failed { HasFailed self.old → disk_of self.new ≡ disk_of self.old }
-        ensures durable { D.honest (disk_of self.old) → ¬ HasFailed self.old → (image : Image)
-            → D.may_leave (disk_of self.new) image → Stands image (entries_of self.old) }
+        ensures durable { WhileWorking self.old (LeavesAfter self.new (λ c. Stands c (entries_of
+            self.old))) }
         ensures looks { IfErr result (λ e. (e ≡ DeviceFailed) ⊎ (e ≡ Failed)
             ⊎ Looks D.Disk (disk_of self.old) (disk_of self.new)) }
         ensures device { IsFailure D.Disk (disk_of self.old) (disk_of self.new) result }
         ensures failed { IsErrOf result Failed ↔ HasFailed self.old }
-        ensures working { HasFailed self.new ↔ (HasFailed self.old ⊎ IsErrOf result DeviceFailed) }
-        ensures no_other { D.honest (disk_of self.old) → IfErr result
-            (λ e. (e ≡ DeviceFailed) ⊎ (e ≡ Failed) ⊎ (e ≡ OutOfMemory)) }
+        ensures working { FailsBy self.old self.new result }
+        ensures no_other { IsHonest self.old → IfErr result IsLogFault }
         ensures faults { IfErr result (λ e. (e ≡ Failed) ⊎ IsMigrationFault (length (ends_of self.old)) e) }
-        ensures honest { D.honest (disk_of self.old) ↔ D.honest (disk_of self.new) }
+        ensures honest { IsHonest self.old ↔ IsHonest self.new }
         ensures later { D.failures (disk_of self.old) ≤ D.failures (disk_of self.new) }
     {
         if self.failed {

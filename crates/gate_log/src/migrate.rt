@@ -1,14 +1,15 @@
 //! The device calls of an upgrade.
-ghost use Rattle.std.specs.Prelude.{◌≡◌, ◌⊎◌, ◌<◌, ◌≤◌, ◌+◌, ◌++◌, ◌∷◌, ◌↔◌, [], length, take, IfOk, IfErr, OnOk};
+ghost use Rattle.std.specs.Prelude.{◌≡◌, ◌⊎◌, ◌<◌, ◌≤◌, ◌+◌, ◌++◌, ◌∷◌, [], length, take, IfOk, IfErr, OnOk};
 ghost use Rattle.std.specs.Prelude.{OnErr};
 ghost use Rattle.fleet_disk.specs.Image.{bytes_of};
 ghost use Rattle.fleet_disk.specs.Rules.{overwritten, Torn, CutBack, OnFile};
-ghost use Rattle.gate_log.specs.Device.{IsCaused, IsFailure, IsSafe, Leaves};
+ghost use Rattle.gate_log.specs.Device.{ActsFor, ActsSafely, AtEachMoment, EndsSafe, IsSound, Turns};
 ghost use Rattle.gate_log.specs.Faults.{IsReadFault};
-ghost use Rattle.gate_log.specs.Looks.{Looks};
+ghost use Rattle.gate_log.specs.Lengths.{HavingBytes};
+ghost use Rattle.gate_log.specs.Looks.{Looks, LooksFor};
 ghost use Rattle.gate_log.specs.Slots.{eight_bytes, slots};
 ghost use Rattle.gate_log.specs.Standing.{last_end, IsRising, parts, IsAtRest, Stands};
-ghost use Rattle.gate_log.specs.Upgrade.{IsUnbegun, IsStaged, IsSwitching, IsSwitched, IsMigrationFault};
+ghost use Rattle.gate_log.specs.Upgrade.{IsUnbegun, IsStaged, IsSwitching, IsSwitched, IsMigrationFault, IsUpgraded};
 ghost use Rattle.gate_log.specs.Version.{IsBegun};
 ghost use Rattle.gate_log.specs.declared.fault.LogFault.TheVariants.{DeviceFailed};
 ghost use Rattle.gate_log.specs.declared.version.LogVersion.TheVariants.{First, Second};
@@ -24,25 +25,20 @@ pub fn migrate<D: Disk>(alloc: Global, disk: &mut D, ends: &[u64]) -> Result<(),
     requires some { 0 < length ends.now }
     requires rising { IsRising 0 ends.now }
     requires at_rest { D.honest disk.old → IsAtRest First ends.now (D.reads disk.old) }
-    requires durable { D.honest disk.old → IsSafe D.Disk disk.old }
+    requires durable { IsSound D.Disk disk.old }
 
-    ensures at_rest { D.honest disk.old → OnOk result (IsAtRest Second ends.now (D.reads disk.new)) }
-    ensures journal { D.honest disk.old → OnOk result ((D.reads disk.new).journal ≡ (D.reads disk.old).journal) }
-    ensures gate { D.honest disk.old → OnOk result ((D.reads disk.new).gate ≡ []) }
-    ensures slots { D.honest disk.old → OnOk result ((D.reads disk.new).slots
-        ≡ slots Second 0 ends.now (D.reads disk.old).journal ++ 0 ∷ []) }
-    ensures durable { D.honest disk.old → OnOk result (IsSafe D.Disk disk.new) }
-    ensures any_moment { D.honest disk.old → Leaves D.Disk disk.old disk.new
-        (λ c. Stands c (parts 0 ends.now (D.reads disk.old).journal)) }
+    ensures at_rest { Turns D.Disk disk.old disk.new result (λ old. IsAtRest Second ends.now) }
+    ensures files { Turns D.Disk disk.old disk.new result (IsUpgraded ends.now) }
+    ensures durable { EndsSafe D.Disk disk.old disk.new result }
+    ensures any_moment { AtEachMoment D.Disk disk.old disk.new (λ c. Stands c (parts 0 ends.now (D.reads
+        disk.old).journal)) }
     ensures same { D.honest disk.old → OnErr result ((D.reads disk.new).journal ≡ (D.reads disk.old).journal) }
     ensures looks { IfErr result (λ e. (e ≡ DeviceFailed)
         ⊎ Looks D.Disk disk.old disk.new) }
     ensures due { D.honest disk.old
         → IfErr result IsReadFault }
-    ensures device { IsFailure D.Disk disk.old disk.new result }
+    ensures acts { ActsFor D.Disk disk.old disk.new result }
     ensures no_other { IfErr result (IsMigrationFault (length ends.now)) }
-    ensures honest { D.honest disk.old ↔ D.honest disk.new }
-    ensures later { D.failures disk.old ≤ D.failures disk.new }
 {
     let slots = slots_of(alloc, disk, ends)?;
     stage(disk, &slots[1..])?;
@@ -53,14 +49,12 @@ pub fn migrate<D: Disk>(alloc: Global, disk: &mut D, ends: &[u64]) -> Result<(),
 // The bytes of `slots` for these entries, with a closed gate behind them.
 fn slots_of<D: Disk>(alloc: Global, disk: &mut D, ends: &[u64]) -> Result<Vec<u8>, LogFault>
     requires rising { IsRising 0 ends.now }
-    ensures bytes { D.honest disk.old → last_end 0 ends.now ≤ length (D.reads disk.old).journal → IfOk result
-        (λ bytes. bytes.items ≡ slots Second 0 ends.now (D.reads disk.old).journal ++ 0 ∷ []) }
+    ensures bytes { HavingBytes D.Disk disk.old (last_end 0 ends.now) (IfOk result (λ bytes. bytes.items ≡ slots
+        Second 0 ends.now (D.reads disk.old).journal ++ 0 ∷ [])) }
     ensures some { IfOk result (λ bytes. 0 < length bytes.items) }
-    ensures due { D.honest disk.old → last_end 0 ends.now ≤ length (D.reads disk.old).journal
-        → IfErr result IsReadFault }
-    ensures device { IsFailure D.Disk disk.old disk.new result }
+    ensures due { HavingBytes D.Disk disk.old (last_end 0 ends.now) (IfErr result IsReadFault) }
     ensures no_other { IfErr result (IsMigrationFault (length ends.now)) }
-    ensures looks { Looks D.Disk disk.old disk.new }
+    ensures looks { LooksFor D.Disk disk.old disk.new result }
 {
     let mut bytes = Vec::new(alloc);
     let mut start = 0;
@@ -90,14 +84,10 @@ fn push_slot(bytes: &mut Vec<u8>, end: u64, sum: &[u8; SUM_BYTES]) -> Result<(),
 // Cuts a file and syncs.
 fn cut_synced<D: Disk>(disk: &mut D, file: DiskFile, len: u64) -> Result<(), DiskFault>
     requires inside { D.honest disk.old → len ≤ length (bytes_of file (D.reads disk.old)) }
-    requires durable { D.honest disk.old → IsSafe D.Disk disk.old }
-    ensures cut { D.honest disk.old → OnOk result (OnFile file (λ old new.
-        new ≡ take len old) (D.reads disk.old) (D.reads disk.new)) }
-    ensures durable { D.honest disk.old → OnOk result (IsSafe D.Disk disk.new) }
-    ensures any_moment { D.honest disk.old → Leaves D.Disk disk.old disk.new
-        (OnFile file (CutBack len) (D.reads disk.old)) }
-    ensures honest { D.honest disk.old ↔ D.honest disk.new }
-    ensures cause { IsCaused D.Disk disk.old disk.new result }
+    requires durable { IsSound D.Disk disk.old }
+    ensures cut { Turns D.Disk disk.old disk.new result (OnFile file (λ old new. new ≡ take len old)) }
+    ensures any_moment { AtEachMoment D.Disk disk.old disk.new (OnFile file (CutBack len) (D.reads disk.old)) }
+    ensures acts { ActsSafely D.Disk disk.old disk.new result }
 {
     disk.cut(file, len)?;
     disk.sync()?;
@@ -112,14 +102,12 @@ fn write_synced<D: Disk>(
     bytes: &[u8],
 ) -> Result<(), DiskFault>
     requires inside { D.honest disk.old → at ≤ length (bytes_of file (D.reads disk.old)) }
-    requires durable { D.honest disk.old → IsSafe D.Disk disk.old }
-    ensures written { D.honest disk.old → OnOk result (OnFile file (λ old new.
-        new ≡ overwritten at bytes.now old) (D.reads disk.old) (D.reads disk.new)) }
-    ensures durable { D.honest disk.old → OnOk result (IsSafe D.Disk disk.new) }
-    ensures any_moment { D.honest disk.old → Leaves D.Disk disk.old disk.new
-        (OnFile file (Torn at (length bytes.now)) (D.reads disk.old)) }
-    ensures honest { D.honest disk.old ↔ D.honest disk.new }
-    ensures cause { IsCaused D.Disk disk.old disk.new result }
+    requires durable { IsSound D.Disk disk.old }
+    ensures written { Turns D.Disk disk.old disk.new result (OnFile file (λ old new. new ≡ overwritten at bytes.now
+        old)) }
+    ensures any_moment { AtEachMoment D.Disk disk.old disk.new (OnFile file (Torn at (length bytes.now)) (D.reads
+        disk.old)) }
+    ensures acts { ActsSafely D.Disk disk.old disk.new result }
 {
     disk.write_at(file, at, bytes)?;
     disk.sync()?;
@@ -128,14 +116,11 @@ fn write_synced<D: Disk>(
 
 // Makes `slots` these bytes behind a closed gate.
 fn stage<D: Disk>(disk: &mut D, bytes: &[u8]) -> Result<(), DiskFault>
-    requires durable { D.honest disk.old → IsSafe D.Disk disk.old }
+    requires durable { IsSound D.Disk disk.old }
     requires idle { D.honest disk.old → ¬ IsBegun (D.reads disk.old).slots }
-    ensures staged { D.honest disk.old → OnOk result (IsStaged bytes.now (D.reads disk.old) (D.reads disk.new)) }
-    ensures durable { D.honest disk.old → OnOk result (IsSafe D.Disk disk.new) }
-    ensures any_moment { D.honest disk.old
-        → Leaves D.Disk disk.old disk.new (IsUnbegun (D.reads disk.old)) }
-    ensures honest { D.honest disk.old ↔ D.honest disk.new }
-    ensures cause { IsCaused D.Disk disk.old disk.new result }
+    ensures staged { Turns D.Disk disk.old disk.new result (IsStaged bytes.now) }
+    ensures any_moment { AtEachMoment D.Disk disk.old disk.new (IsUnbegun (D.reads disk.old)) }
+    ensures acts { ActsSafely D.Disk disk.old disk.new result }
 {
     cut_synced(disk, DiskFile::Slots, 0)?;
     write_synced(disk, DiskFile::Slots, 0, &[CLOSED])?;
@@ -145,14 +130,11 @@ fn stage<D: Disk>(disk: &mut D, bytes: &[u8]) -> Result<(), DiskFault>
 
 // Opens the first gate of `slots`, and empties `gate`.
 fn switch<D: Disk>(disk: &mut D) -> Result<(), DiskFault>
-    requires durable { D.honest disk.old → IsSafe D.Disk disk.old }
+    requires durable { IsSound D.Disk disk.old }
     requires some { D.honest disk.old → 0 < length (D.reads disk.old).slots }
-    ensures switched { D.honest disk.old → OnOk result (IsSwitched (D.reads disk.old) (D.reads disk.new)) }
-    ensures durable { D.honest disk.old → OnOk result (IsSafe D.Disk disk.new) }
-    ensures any_moment { D.honest disk.old
-        → Leaves D.Disk disk.old disk.new (IsSwitching (D.reads disk.old)) }
-    ensures honest { D.honest disk.old ↔ D.honest disk.new }
-    ensures cause { IsCaused D.Disk disk.old disk.new result }
+    ensures switched { Turns D.Disk disk.old disk.new result IsSwitched }
+    ensures any_moment { AtEachMoment D.Disk disk.old disk.new (IsSwitching (D.reads disk.old)) }
+    ensures acts { ActsSafely D.Disk disk.old disk.new result }
 {
     write_synced(disk, DiskFile::Slots, 0, &[OPEN])?;
     cut_synced(disk, DiskFile::Gate, 0)?;

@@ -2,9 +2,10 @@
 ghost use Rattle.std.specs.Prelude.{◌≡◌, ◌<◌, ◌≤◌, ◌+◌, ◌^◌, ℕ, length, slice_index_or, IfOk, IfErr};
 ghost use Rattle.fleet_disk.specs.Image.{bytes_of};
 ghost use Rattle.fleet_disk.specs.Rules.{IsRead};
-ghost use Rattle.gate_log.specs.Device.{IsCaused, IsFailure};
+ghost use Rattle.gate_log.specs.Device.{Tells};
 ghost use Rattle.gate_log.specs.Faults.{IsEntryFault, IsReadFault};
-ghost use Rattle.gate_log.specs.Looks.{Looks, IsFilled};
+ghost use Rattle.gate_log.specs.Lengths.{HavingBytes};
+ghost use Rattle.gate_log.specs.Looks.{IsFilled, LooksFor, LooksOn};
 ghost use Rattle.gate_log.specs.Slots.{part};
 
 use crate::fault::LogFault;
@@ -19,19 +20,16 @@ fn read_some<D: Disk>(
     buf: &mut [u8],
 ) -> Result<usize, DiskFault>
     ensures within { IfOk result (λ n. n ≤ length buf.old) }
-    ensures bytes { D.honest disk.old → IfOk result (λ n. IsRead
-        (bytes_of file (D.reads disk.old)) at n buf.old buf.new) }
-    ensures looks { Looks D.Disk disk.old disk.new }
-    ensures cause { IsCaused D.Disk disk.old disk.new result }
+    ensures bytes { Tells D.Disk disk.old result (λ n image. IsRead (bytes_of file image) at n buf.old buf.new) }
+    ensures looks { LooksOn D.Disk disk.old disk.new result }
 {
     disk.read(file, at, buf)
 }
 
 // How many bytes a file has.
 pub fn length_of<D: Disk>(disk: &mut D, file: DiskFile) -> Result<u64, DiskFault>
-    ensures bytes { D.honest disk.old → IfOk result (λ n. n ≡ length (bytes_of file (D.reads disk.old))) }
-    ensures looks { Looks D.Disk disk.old disk.new }
-    ensures cause { IsCaused D.Disk disk.old disk.new result }
+    ensures bytes { Tells D.Disk disk.old result (λ n image. n ≡ length (bytes_of file image)) }
+    ensures looks { LooksOn D.Disk disk.old disk.new result }
 {
     disk.len(file)
 }
@@ -40,10 +38,8 @@ pub fn length_of<D: Disk>(disk: &mut D, file: DiskFile) -> Result<u64, DiskFault
 fn fill<D: Disk>(disk: &mut D, file: DiskFile, at: u64, buf: &mut [u8]) -> Result<usize, DiskFault>
     requires { at + length buf.old < 2 ^ 64 }
     ensures within { IfOk result (λ n. n ≤ length buf.old) }
-    ensures bytes { D.honest disk.old → IfOk result (λ n. IsFilled
-        (bytes_of file (D.reads disk.old)) at n buf.old buf.new) }
-    ensures looks { Looks D.Disk disk.old disk.new }
-    ensures cause { IsCaused D.Disk disk.old disk.new result }
+    ensures bytes { Tells D.Disk disk.old result (λ n image. IsFilled (bytes_of file image) at n buf.old buf.new) }
+    ensures looks { LooksOn D.Disk disk.old disk.new result }
 {
     let mut done = 0;
     while done < buf.len() {
@@ -66,10 +62,8 @@ pub fn read_full<D: Disk>(
     requires { at + length buf.old < 2 ^ 64 }
     ensures within { IfOk result (λ n. n ≤ length buf.old) }
     ensures octets { (i : ℕ) → slice_index_or buf.new i 0 < 256 }
-    ensures bytes { D.honest disk.old → IfOk result (λ n. IsFilled
-        (bytes_of file (D.reads disk.old)) at n buf.old buf.new) }
-    ensures looks { Looks D.Disk disk.old disk.new }
-    ensures cause { IsCaused D.Disk disk.old disk.new result }
+    ensures bytes { Tells D.Disk disk.old result (λ n image. IsFilled (bytes_of file image) at n buf.old buf.new) }
+    ensures looks { LooksOn D.Disk disk.old disk.new result }
 {
     fill(disk, file, at, buf)
 }
@@ -84,13 +78,11 @@ pub fn read_part<D: Disk>(
     end: u64,
 ) -> Result<Vec<u8>, LogFault>
     requires { start < end }
-    ensures bytes { D.honest disk.old → end ≤ length (D.reads disk.old).journal
-        → IfOk result (λ bytes. bytes.items ≡ part start end (D.reads disk.old).journal) }
-    ensures due { D.honest disk.old → end ≤ length (D.reads disk.old).journal
-        → IfErr result IsReadFault }
-    ensures device { IsFailure D.Disk disk.old disk.new result }
+    ensures bytes { HavingBytes D.Disk disk.old end (IfOk result (λ bytes. bytes.items ≡ part start end (D.reads
+        disk.old).journal)) }
+    ensures due { HavingBytes D.Disk disk.old end (IfErr result IsReadFault) }
     ensures no_other { IfErr result (IsEntryFault entry) }
-    ensures looks { Looks D.Disk disk.old disk.new }
+    ensures looks { LooksFor D.Disk disk.old disk.new result }
 {
     let size = (end - start) as usize;
     let mut bytes = vec![in alloc; 0u8; size]?;

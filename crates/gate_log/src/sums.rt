@@ -1,11 +1,11 @@
 //! The sums of entries.
 ghost use Rattle.std.specs.Prelude.{◌≡◌, ◌<◌, ◌≤◌, ◌+◌, ◌-◌, ◌^◌, ◌↔◌, length, take, drop, IsTrue, IfOk, IfErr};
 ghost use Rattle.md5.specs.Md5.{md5};
-ghost use Rattle.gate_log.specs.Device.{IsCaused, IsFailure};
 ghost use Rattle.gate_log.specs.Faults.{IsEntryFault, IsReadFault};
-ghost use Rattle.gate_log.specs.Looks.{Looks};
+ghost use Rattle.gate_log.specs.Lengths.{HavingBytes, HavingSum, IsSumAt};
+ghost use Rattle.gate_log.specs.Looks.{LooksFor, LooksOn};
 ghost use Rattle.gate_log.specs.Slots.{part, sum_size};
-ghost use Rattle.gate_log.specs.Version.{gates_of, sum_of};
+ghost use Rattle.gate_log.specs.declared.version.LogVersion.TheVariants.{Second};
 
 use crate::fault::LogFault;
 use crate::reads::{read_full, read_part};
@@ -31,13 +31,11 @@ pub fn sum_of_part<D: Disk>(
     end: u64,
 ) -> Result<[u8; SUM_BYTES], LogFault>
     requires { start < end }
-    ensures sum { D.honest disk.old → end ≤ length (D.reads disk.old).journal
-        → IfOk result (λ sum. sum ≡ md5 (part start end (D.reads disk.old).journal)) }
-    ensures due { D.honest disk.old → end ≤ length (D.reads disk.old).journal
-        → IfErr result IsReadFault }
-    ensures device { IsFailure D.Disk disk.old disk.new result }
+    ensures sum { HavingBytes D.Disk disk.old end (IfOk result (λ sum. sum ≡ md5 (part start end (D.reads
+        disk.old).journal))) }
+    ensures due { HavingBytes D.Disk disk.old end (IfErr result IsReadFault) }
     ensures no_other { IfErr result (IsEntryFault entry) }
-    ensures looks { Looks D.Disk disk.old disk.new }
+    ensures looks { LooksFor D.Disk disk.old disk.new result }
 {
     let bytes = read_part(alloc, disk, entry, start, end)?;
     Ok(sum_of_entry(&bytes))
@@ -55,15 +53,11 @@ pub fn has_sum<D: Disk>(
 ) -> Result<bool, LogFault>
     requires order { start < end }
     requires place { at + sum_size version < 2 ^ 64 }
-    ensures sum { D.honest disk.old → at + sum_size version ≤ length (gates_of version (D.reads disk.old))
-        → end ≤ length (D.reads disk.old).journal
-        → IfOk result (λ has. IsTrue has ↔ (take (sum_size version) (drop at (gates_of version (D.reads disk.old)))
-        ≡ sum_of version (part start end (D.reads disk.old).journal))) }
-    ensures due { D.honest disk.old → end ≤ length (D.reads disk.old).journal
-        → IfErr result IsReadFault }
-    ensures device { IsFailure D.Disk disk.old disk.new result }
+    ensures sum { HavingSum D.Disk disk.old version at end (λ image. IfOk result (λ has. IsTrue has ↔ IsSumAt version
+        at start end image)) }
+    ensures due { HavingBytes D.Disk disk.old end (IfErr result IsReadFault) }
     ensures no_other { IfErr result (IsEntryFault entry) }
-    ensures looks { Looks D.Disk disk.old disk.new }
+    ensures looks { LooksFor D.Disk disk.old disk.new result }
 {
     match version {
         LogVersion::First => Ok(true),
@@ -82,15 +76,11 @@ fn is_sum_at<D: Disk>(
 ) -> Result<bool, LogFault>
     requires order { start < end }
     requires place { at + 16 < 2 ^ 64 }
-    ensures sum { D.honest disk.old → at + 16 ≤ length (D.reads disk.old).slots
-        → end ≤ length (D.reads disk.old).journal
-        → IfOk result (λ has. IsTrue has ↔ (take 16 (drop at (D.reads disk.old).slots)
-        ≡ md5 (part start end (D.reads disk.old).journal))) }
-    ensures due { D.honest disk.old → end ≤ length (D.reads disk.old).journal
-        → IfErr result IsReadFault }
-    ensures device { IsFailure D.Disk disk.old disk.new result }
+    ensures sum { HavingSum D.Disk disk.old Second at end (λ image. IfOk result (λ has. IsTrue has ↔ IsSumAt Second at
+        start end image)) }
+    ensures due { HavingBytes D.Disk disk.old end (IfErr result IsReadFault) }
     ensures no_other { IfErr result (IsEntryFault entry) }
-    ensures looks { Looks D.Disk disk.old disk.new }
+    ensures looks { LooksFor D.Disk disk.old disk.new result }
 {
     let there = read_sum(disk, at)?;
     let wanted = sum_of_part(alloc, disk, entry, start, end)?;
@@ -102,8 +92,7 @@ fn read_sum<D: Disk>(disk: &mut D, at: u64) -> Result<[u8; SUM_BYTES], DiskFault
     requires { at + 16 < 2 ^ 64 }
     ensures sum { D.honest disk.old → at + 16 ≤ length (D.reads disk.old).slots
         → IfOk result (λ sum. take 16 (drop at (D.reads disk.old).slots) ≡ sum) }
-    ensures looks { Looks D.Disk disk.old disk.new }
-    ensures cause { IsCaused D.Disk disk.old disk.new result }
+    ensures looks { LooksOn D.Disk disk.old disk.new result }
 {
     let mut sum = [0; SUM_BYTES];
     read_full(disk, DiskFile::Slots, at, &mut sum)?;

@@ -25,7 +25,7 @@ loop-entry-preserved g c =
     let inside = c.loop-entry-test.true in
     let end = get_or ends entry 0 in
     record {
-      looks = looks_more D g.met.D.Disk.only_now c.args.disk.now c.loop-entry.disk c.sum_of_part.new.disk so_far.looks c.sum_of_part.ensures.looks;
+      looks = looks_more D g.met.D.Disk.only_now c.args.disk.now c.loop-entry.disk c.sum_of_part.new.disk so_far.looks c.sum_of_part.ensures.looks.only;
       start = sym (last_more ends entry inside);
       bytes = λ h within.
           let same = so_far.looks.same h in

@@ -23,7 +23,7 @@ returns-in_err-cut_synced-clause-any_moment g c h =
     let some = c.requires.some h in
     let P : Image → Type 0 = λ f. IsSwitching rest f in
     let run1 = weaker D.clock D.left_since disk c.write_synced.new.disk _ P (c.write_synced.ensures.any_moment h) (λ f goes. opening rest f some goes) in
-    let h1 = c.write_synced.ensures.honest.0 h in
+    let h1 = c.write_synced.ensures.acts.honest.0 h in
     let mid = D.reads c.write_synced.new.disk in
     let w1 = c.in_ok-write_synced.ensures.written h in
     let first = opened_first rest.slots mid.slots some w1.0 in
@@ -38,7 +38,7 @@ returns-clause-any_moment g c h =
     let some = c.requires.some h in
     let P : Image → Type 0 = λ f. IsSwitching rest f in
     let run1 = weaker D.clock D.left_since disk c.write_synced.new.disk _ P (c.write_synced.ensures.any_moment h) (λ f goes. opening rest f some goes) in
-    let h1 = c.write_synced.ensures.honest.0 h in
+    let h1 = c.write_synced.ensures.acts.honest.0 h in
     let mid = D.reads c.write_synced.new.disk in
     let w1 = c.in_ok-write_synced.ensures.written h in
     let first = opened_first rest.slots mid.slots some w1.0 in
@@ -48,7 +48,7 @@ returns-clause-any_moment g c h =
 pub returns-clause-switched : goal.returns-clause-switched
 returns-clause-switched g c h =
     let D = g.D.Disk in
-    let h1 = c.write_synced.ensures.honest.0 h in
+    let h1 = c.write_synced.ensures.acts.honest.0 h in
     let w1 = c.in_ok-write_synced.ensures.written h in
     let w2 = c.in_ok-cut_synced.ensures.cut h1 in
     record {

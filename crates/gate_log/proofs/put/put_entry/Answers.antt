@@ -93,14 +93,14 @@ returns-in_err-sync-clause-any_moment g c h =
     let h1 = c.write_at.ensures.honest.0 h in
     let second = second_left v ends rest up at_rest _ _ _ _ _ _ _ place behind only (c.write_at.ensures.left h) (c.write_slot.ensures.left h1) in
     let r2 = goes_on D.clock D.left_since disk c.write_at.new.self c.write_slot.new.disk P _ r1 (c.write_slot.ensures.time h1) (λ f now. inl (second f now)) in
-    let h2 = c.write_slot.ensures.honest.0 h1 in
+    let h2 = c.write_slot.ensures.acts.honest.0 h1 in
     let r3 = goes_on D.clock D.left_since disk c.write_slot.new.disk c.sync.new.self P _ r2 (c.sync.ensures.time h2) (λ f now. inl (second f (c.sync.ensures.left h2 f now))) in
     r3
 
 pub write_at-requires-2 : goal.write_at-requires-2
 write_at-requires-2 g c h3 =
     let h2 = c.sync.ensures.honest.1 h3 in
-    let h1 = c.write_slot.ensures.honest.1 h2 in
+    let h1 = c.write_slot.ensures.acts.honest.1 h2 in
     let h = c.write_at.ensures.honest.1 h1 in
     let D = g.D.Disk in
     let disk = c.args.disk.now in
@@ -148,7 +148,7 @@ returns-in_err-write_at-2-clause-any_moment g c h =
     let h1 = c.write_at.ensures.honest.0 h in
     let second = second_left v ends rest up at_rest _ _ _ _ _ _ _ place behind only (c.write_at.ensures.left h) (c.write_slot.ensures.left h1) in
     let r2 = goes_on D.clock D.left_since disk c.write_at.new.self c.write_slot.new.disk P _ r1 (c.write_slot.ensures.time h1) (λ f now. inl (second f now)) in
-    let h2 = c.write_slot.ensures.honest.0 h1 in
+    let h2 = c.write_slot.ensures.acts.honest.0 h1 in
     let r3 = goes_on D.clock D.left_since disk c.write_slot.new.disk c.sync.new.self P _ r2 (c.sync.ensures.time h2) (λ f now. inl (second f (c.sync.ensures.left h2 f now))) in
     let staged = D.reads c.write_slot.new.disk in
     let end = last_end 0 ends + length entry in
@@ -187,7 +187,7 @@ returns-in_err-sync-2-clause-any_moment g c h =
     let h1 = c.write_at.ensures.honest.0 h in
     let second = second_left v ends rest up at_rest _ _ _ _ _ _ _ place behind only (c.write_at.ensures.left h) (c.write_slot.ensures.left h1) in
     let r2 = goes_on D.clock D.left_since disk c.write_at.new.self c.write_slot.new.disk P _ r1 (c.write_slot.ensures.time h1) (λ f now. inl (second f now)) in
-    let h2 = c.write_slot.ensures.honest.0 h1 in
+    let h2 = c.write_slot.ensures.acts.honest.0 h1 in
     let r3 = goes_on D.clock D.left_since disk c.write_slot.new.disk c.sync.new.self P _ r2 (c.sync.ensures.time h2) (λ f now. inl (second f (c.sync.ensures.left h2 f now))) in
     let staged = D.reads c.write_slot.new.disk in
     let end = last_end 0 ends + length entry in
@@ -228,7 +228,7 @@ returns-clause-any_moment g c h =
     let h1 = c.write_at.ensures.honest.0 h in
     let second = second_left v ends rest up at_rest _ _ _ _ _ _ _ place behind only (c.write_at.ensures.left h) (c.write_slot.ensures.left h1) in
     let r2 = goes_on D.clock D.left_since disk c.write_at.new.self c.write_slot.new.disk P _ r1 (c.write_slot.ensures.time h1) (λ f now. inl (second f now)) in
-    let h2 = c.write_slot.ensures.honest.0 h1 in
+    let h2 = c.write_slot.ensures.acts.honest.0 h1 in
     let r3 = goes_on D.clock D.left_since disk c.write_slot.new.disk c.sync.new.self P _ r2 (c.sync.ensures.time h2) (λ f now. inl (second f (c.sync.ensures.left h2 f now))) in
     let staged = D.reads c.write_slot.new.disk in
     let end = last_end 0 ends + length entry in
@@ -263,7 +263,7 @@ returns-clause-at_rest g c h =
     let place = c.end_of-start.ensures in
     let behind : c.gate_at-gate.result + 1 ≡ gate_place v (length ends) + 1 = ap (λ (k : ℕ). k + 1) c.gate_at-gate.ensures.place in
     let h1 = c.write_at.ensures.honest.0 h in
-    let h2 = c.write_slot.ensures.honest.0 h1 in
+    let h2 = c.write_slot.ensures.acts.honest.0 h1 in
     let staged = D.reads c.write_slot.new.disk in
     let end = last_end 0 ends + length entry in
     let w1 = on_journal v (λ (old new : List ℕ). new ≡ overwritten c.end_of-start.result entry old) rest (D.reads c.write_at.new.self) (c.in_ok-write_at.ensures.written h) in
@@ -287,8 +287,8 @@ returns-clause-at_rest g c h =
     let done = opened v ends rest up at_rest entry end c.requires.some is fits staged journal gates others c.gate_at-gate.result (D.reads c.sync-2.new.self) c.gate_at-gate.ensures.place open_gates same beside in
     done.0
 
-pub returns-clause-journal : goal.returns-clause-journal
-returns-clause-journal g c h =
+pub returns-clause-files : goal.returns-clause-files
+returns-clause-files g c h =
     let D = g.D.Disk in
     let disk = c.args.disk.now in
     let rest = D.reads disk in
@@ -301,7 +301,7 @@ returns-clause-journal g c h =
     let place = c.end_of-start.ensures in
     let behind : c.gate_at-gate.result + 1 ≡ gate_place v (length ends) + 1 = ap (λ (k : ℕ). k + 1) c.gate_at-gate.ensures.place in
     let h1 = c.write_at.ensures.honest.0 h in
-    let h2 = c.write_slot.ensures.honest.0 h1 in
+    let h2 = c.write_slot.ensures.acts.honest.0 h1 in
     let staged = D.reads c.write_slot.new.disk in
     let end = last_end 0 ends + length entry in
     let w1 = on_journal v (λ (old new : List ℕ). new ≡ overwritten c.end_of-start.result entry old) rest (D.reads c.write_at.new.self) (c.in_ok-write_at.ensures.written h) in
@@ -322,81 +322,7 @@ returns-clause-journal g c h =
     let open_gates = ap (λ (i : Image). gates_of v i) after ∙ w3.gates ∙ ap (λ (i : Image). overwritten c.gate_at-gate.result (1 ∷ []) (gates_of v i)) before in
     let same = ap (λ (i : Image). i.journal) after ∙ w3.journal ∙ ap (λ (i : Image). i.journal) before in
     let beside = ap (λ (i : Image). others_of v i) after ∙ w3.others ∙ ap (λ (i : Image). others_of v i) before in
-    same ∙ journal
-
-pub returns-clause-gates : goal.returns-clause-gates
-returns-clause-gates g c h =
-    let D = g.D.Disk in
-    let disk = c.args.disk.now in
-    let rest = D.reads disk in
-    let v = c.args.version in
-    let ends = c.args.ends.now in
-    let entry = c.args.entry.now in
-    let up = c.requires.rising in
-    let at_rest = c.requires.at_rest h in
-    let only = c.requires.durable h in
-    let place = c.end_of-start.ensures in
-    let behind : c.gate_at-gate.result + 1 ≡ gate_place v (length ends) + 1 = ap (λ (k : ℕ). k + 1) c.gate_at-gate.ensures.place in
-    let h1 = c.write_at.ensures.honest.0 h in
-    let h2 = c.write_slot.ensures.honest.0 h1 in
-    let staged = D.reads c.write_slot.new.disk in
-    let end = last_end 0 ends + length entry in
-    let w1 = on_journal v (λ (old new : List ℕ). new ≡ overwritten c.end_of-start.result entry old) rest (D.reads c.write_at.new.self) (c.in_ok-write_at.ensures.written h) in
-    let w2 = on_gates v (λ (old new : List ℕ). new ≡ overwritten (c.gate_at-gate.result + 1) (mark v (c.end_of-start.result + length entry) entry ++ 0 ∷ []) old) (D.reads c.write_at.new.self) staged (c.in_ok-write_slot.ensures.written h1) in
-    let journal = w2.journal ∙ w1.journal ∙ over_end c.end_of-start.result entry rest.journal (place ∙ sym at_rest.journal) in
-    let gates = w2.gates ∙ ap (λ (l : List ℕ). overwritten (c.gate_at-gate.result + 1) (mark v (c.end_of-start.result + length entry) entry ++ 0 ∷ []) l) w1.gates
-    ∙ over_end (c.gate_at-gate.result + 1) (mark v (c.end_of-start.result + length entry) entry ++ 0 ∷ []) (gates_of v rest) (behind ∙ sym (gates_length v ends rest up at_rest))
-    ∙ ap (λ (k : ℕ). gates_of v rest ++ (mark v (k + length entry) entry ++ 0 ∷ [])) place in
-    let others = w2.others ∙ w1.others in
-    let is : end ≡ length rest.journal + length entry = omega (arith, at_rest.journal) in
-    let fits : end < 2 ^ 64 = omega (arith, c.requires.fits) in
-    let h3 = c.sync.ensures.honest.0 h2 in
-    let h4 = c.write_at-2.ensures.honest.0 h3 in
-    let written = subst (λ (file : DiskFile). OnFile file (λ (old new : List ℕ). new ≡ overwritten c.gate_at-gate.result (1 ∷ []) old) (D.reads c.sync.new.self) (D.reads c.write_at-2.new.self)) c.gates_file.ensures (c.in_ok-write_at-2.ensures.written h3) in
-    let w3 = on_gates v (λ (old new : List ℕ). new ≡ overwritten c.gate_at-gate.result (1 ∷ []) old) (D.reads c.sync.new.self) (D.reads c.write_at-2.new.self) written in
-    let before = c.sync.ensures.reads h2 in
-    let after = c.sync-2.ensures.reads h4 in
-    let open_gates = ap (λ (i : Image). gates_of v i) after ∙ w3.gates ∙ ap (λ (i : Image). overwritten c.gate_at-gate.result (1 ∷ []) (gates_of v i)) before in
-    let same = ap (λ (i : Image). i.journal) after ∙ w3.journal ∙ ap (λ (i : Image). i.journal) before in
-    let beside = ap (λ (i : Image). others_of v i) after ∙ w3.others ∙ ap (λ (i : Image). others_of v i) before in
-    opened_bytes v ends rest up at_rest entry end c.requires.some is fits staged journal gates others c.gate_at-gate.result (D.reads c.sync-2.new.self) c.gate_at-gate.ensures.place open_gates same
-
-pub returns-clause-others : goal.returns-clause-others
-returns-clause-others g c h =
-    let D = g.D.Disk in
-    let disk = c.args.disk.now in
-    let rest = D.reads disk in
-    let v = c.args.version in
-    let ends = c.args.ends.now in
-    let entry = c.args.entry.now in
-    let up = c.requires.rising in
-    let at_rest = c.requires.at_rest h in
-    let only = c.requires.durable h in
-    let place = c.end_of-start.ensures in
-    let behind : c.gate_at-gate.result + 1 ≡ gate_place v (length ends) + 1 = ap (λ (k : ℕ). k + 1) c.gate_at-gate.ensures.place in
-    let h1 = c.write_at.ensures.honest.0 h in
-    let h2 = c.write_slot.ensures.honest.0 h1 in
-    let staged = D.reads c.write_slot.new.disk in
-    let end = last_end 0 ends + length entry in
-    let w1 = on_journal v (λ (old new : List ℕ). new ≡ overwritten c.end_of-start.result entry old) rest (D.reads c.write_at.new.self) (c.in_ok-write_at.ensures.written h) in
-    let w2 = on_gates v (λ (old new : List ℕ). new ≡ overwritten (c.gate_at-gate.result + 1) (mark v (c.end_of-start.result + length entry) entry ++ 0 ∷ []) old) (D.reads c.write_at.new.self) staged (c.in_ok-write_slot.ensures.written h1) in
-    let journal = w2.journal ∙ w1.journal ∙ over_end c.end_of-start.result entry rest.journal (place ∙ sym at_rest.journal) in
-    let gates = w2.gates ∙ ap (λ (l : List ℕ). overwritten (c.gate_at-gate.result + 1) (mark v (c.end_of-start.result + length entry) entry ++ 0 ∷ []) l) w1.gates
-    ∙ over_end (c.gate_at-gate.result + 1) (mark v (c.end_of-start.result + length entry) entry ++ 0 ∷ []) (gates_of v rest) (behind ∙ sym (gates_length v ends rest up at_rest))
-    ∙ ap (λ (k : ℕ). gates_of v rest ++ (mark v (k + length entry) entry ++ 0 ∷ [])) place in
-    let others = w2.others ∙ w1.others in
-    let is : end ≡ length rest.journal + length entry = omega (arith, at_rest.journal) in
-    let fits : end < 2 ^ 64 = omega (arith, c.requires.fits) in
-    let h3 = c.sync.ensures.honest.0 h2 in
-    let h4 = c.write_at-2.ensures.honest.0 h3 in
-    let written = subst (λ (file : DiskFile). OnFile file (λ (old new : List ℕ). new ≡ overwritten c.gate_at-gate.result (1 ∷ []) old) (D.reads c.sync.new.self) (D.reads c.write_at-2.new.self)) c.gates_file.ensures (c.in_ok-write_at-2.ensures.written h3) in
-    let w3 = on_gates v (λ (old new : List ℕ). new ≡ overwritten c.gate_at-gate.result (1 ∷ []) old) (D.reads c.sync.new.self) (D.reads c.write_at-2.new.self) written in
-    let before = c.sync.ensures.reads h2 in
-    let after = c.sync-2.ensures.reads h4 in
-    let open_gates = ap (λ (i : Image). gates_of v i) after ∙ w3.gates ∙ ap (λ (i : Image). overwritten c.gate_at-gate.result (1 ∷ []) (gates_of v i)) before in
-    let same = ap (λ (i : Image). i.journal) after ∙ w3.journal ∙ ap (λ (i : Image). i.journal) before in
-    let beside = ap (λ (i : Image). others_of v i) after ∙ w3.others ∙ ap (λ (i : Image). others_of v i) before in
-    beside ∙ others
+    (same ∙ journal, opened_bytes v ends rest up at_rest entry end c.requires.some is fits staged journal gates others c.gate_at-gate.result (D.reads c.sync-2.new.self) c.gate_at-gate.ensures.place open_gates same, beside ∙ others)
 
 pub returns-clause-added : goal.returns-clause-added
 returns-clause-added g c h =
@@ -412,7 +338,7 @@ returns-clause-added g c h =
     let place = c.end_of-start.ensures in
     let behind : c.gate_at-gate.result + 1 ≡ gate_place v (length ends) + 1 = ap (λ (k : ℕ). k + 1) c.gate_at-gate.ensures.place in
     let h1 = c.write_at.ensures.honest.0 h in
-    let h2 = c.write_slot.ensures.honest.0 h1 in
+    let h2 = c.write_slot.ensures.acts.honest.0 h1 in
     let staged = D.reads c.write_slot.new.disk in
     let end = last_end 0 ends + length entry in
     let w1 = on_journal v (λ (old new : List ℕ). new ≡ overwritten c.end_of-start.result entry old) rest (D.reads c.write_at.new.self) (c.in_ok-write_at.ensures.written h) in

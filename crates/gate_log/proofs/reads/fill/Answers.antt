@@ -22,7 +22,7 @@ loop-done-preserved g c =
     record {
       within = omega (arith, size, rest, c.in_ok-count.ensures.within, so_far.within);
       same_length = size ∙ so_far.same_length;
-      looks = looks_more D g.met.D.Disk.only_now c.args.disk.now c.loop-done.disk c.read_some.new.disk so_far.looks c.read_some.ensures.looks;
+      looks = looks_more D g.met.D.Disk.only_now c.args.disk.now c.loop-done.disk c.read_some.new.disk so_far.looks c.read_some.ensures.looks.only;
       inside = λ h. let r = read h in let was = so_far.inside h in omega (arith, r.inside, was);
       bytes = λ h. filled (bytes_of c.args.file (D.reads c.args.disk.now)) c.args.buf.now buf part at done count (read h) (so_far.bytes h) (so_far.inside h) so_far.within;
     }

@@ -35,7 +35,7 @@ returns-in_err-put_entry-clause-either g c h is image left =
     let honest = subst (λ (d : g.row.D.Denot). D.honest d) (sym here) h in
     let entries : parts 0 ends (D.reads log.disk).journal ≡ entries_of old = ap (λ (l : List ℕ). parts 0 l (D.reads log.disk).journal) (c.deref-2.ensures.value ∙ c.reserve.ensures.entries) ∙ ap (λ (d : g.row.D.Denot). parts 0 old.ends.items (D.reads d).journal) here in
     let run = c.put_entry.ensures.any_moment honest in
-    subst (λ (l : List (List ℕ)). IsEither l entry image) entries (run.each image (g.met.D.Disk.counts_now c.put_entry.new.disk (D.clock log.disk) image (c.put_entry.ensures.honest.0 honest) run.later left))
+    subst (λ (l : List (List ℕ)). IsEither l entry image) entries (run.each image (g.met.D.Disk.counts_now c.put_entry.new.disk (D.clock log.disk) image (c.put_entry.ensures.acts.honest.0 honest) run.later left))
 
 pub returns-clause-durable : goal.returns-clause-durable
 returns-clause-durable g c h image left =
@@ -52,7 +52,7 @@ returns-clause-durable g c h image left =
     let more : last_end 0 ends < last_end 0 ends + length entry = omega (arith, c.requires) in
     let all = ends ++ (last_end 0 ends + length entry) ∷ [] in
     subst (λ (l : List (List ℕ)). Stands image l) (done.added honest ∙ ap (λ (l : List (List ℕ)). l ++ entry ∷ []) entries)
-    (still log.version all (D.reads c.put_entry.new.disk) (rising_push 0 ends (last_end 0 ends + length entry) up more) (done.at_rest honest) image (done.durable honest image left))
+    (still log.version all (D.reads c.put_entry.new.disk) (rising_push 0 ends (last_end 0 ends + length entry) up more) (done.at_rest honest) image (done.acts.durable honest image left))
 
 pub invariant_of-self-2 : goal.invariant_of-self-2
 invariant_of-self-2 g c =
@@ -67,6 +67,6 @@ invariant_of-self-2 g c =
     record {
       rising = subst (λ (l : List ℕ). IsRising 0 l) (sym items) (rising_push 0 ends (last_end 0 ends + length entry) log.rising more);
       begun = λ first. omega (arith, ap length items, length-append ends ((last_end 0 ends + length entry) ∷ []));
-      at_rest = λ h working. subst (λ (l : List ℕ). IsAtRest log.version l (g.D.Disk.reads c.put_entry.new.disk)) there (c.in_ok-put_entry.ensures.at_rest (c.put_entry.ensures.honest.1 h));
-      durable = λ h working. c.in_ok-put_entry.ensures.durable (c.put_entry.ensures.honest.1 h);
+      at_rest = λ h working. subst (λ (l : List ℕ). IsAtRest log.version l (g.D.Disk.reads c.put_entry.new.disk)) there (c.in_ok-put_entry.ensures.at_rest (c.put_entry.ensures.acts.honest.1 h));
+      durable = λ h working. c.in_ok-put_entry.ensures.acts.durable (c.put_entry.ensures.acts.honest.1 h);
     }
