@@ -1,8 +1,8 @@
 //! The trait of an editor.
-ghost use Rattle.std.specs.Prelude.{◌≡◌, List, [], ◌∷◌, ◌++◌, IfOk, IfErr, OnOk, OnErr};
-ghost use Rattle.std.specs.Option.{option_copied, option_map};
+ghost use Rattle.std.specs.Prelude.{◌≡◌, List, [], ◌∷◌, IfOk, OnErr};
+ghost use Rattle.std.specs.Option.{option_copied};
 ghost use Rattle.node_base.specs.Path.{Path};
-ghost use Rattle.delta_editor.specs.Calls.{Call, Adds, LetsGo, Refused, StaysShown};
+ghost use Rattle.delta_editor.specs.Calls.{Call, Ends, LetsGo, MayRefuse, StaysShown, Takes};
 ghost use Rattle.delta_editor.specs.declared.call.Call.TheVariants as call;
 ghost use Rattle.delta_editor.specs.declared.fault.EditorFault.{EditorFault};
 
@@ -51,24 +51,23 @@ pub trait Editor {
 
     /// Names the revision that is shown.
     fn target(&mut self, rev: RevNo) -> Result<(), EditorFault>
-        ensures shown { OnOk result (Adds shows self.old self.new (call.Target rev ∷ [])) }
-        ensures refused { IfErr result (Refused shows began refuses self.old (call.Target rev)) }
+        ensures shown { Takes shows self.old self.new (call.Target rev) result }
+        ensures refused { MayRefuse shows began refuses self.old (call.Target rev) result }
         ensures began { began self.new ≡ began self.old };
 
     /// Opens the root. `base` is the revision that it is known at, here and in the calls below: the one before the
     /// revision that is shown.
     fn open_root(&mut self, base: Option<RevNo>) -> Result<Self::Dir, EditorFault>
-        ensures shown { OnOk result (Adds shows self.old self.new (call.OpenRoot base ∷ [])) }
+        ensures shown { Takes shows self.old self.new (call.OpenRoot base) result }
         ensures baton { IfOk result (λ d. dir_path d ≡ []) }
-        ensures refused { IfErr result (Refused shows began refuses self.old (call.OpenRoot base)) }
+        ensures refused { MayRefuse shows began refuses self.old (call.OpenRoot base) result }
         ensures began { began self.new ≡ began self.old };
 
     /// Ends the edit, and gives what it came to.
     fn close_edit(self) -> Result<Self::Done, EditorFault>
-        ensures shown { IfOk result (λ d. (calls : List Call) → shows self calls
-            → done_shows d (calls ++ call.CloseEdit ∷ [])) }
+        ensures shown { Ends shows done_shows self result }
         ensures began { IfOk result (λ d. done_began d ≡ began self) }
-        ensures refused { IfErr result (Refused shows began refuses self call.CloseEdit) }
+        ensures refused { MayRefuse shows began refuses self call.CloseEdit result }
         ensures given_up { OnErr result (given_up self) };
 
     /// Gives the edit up after a refusal.
@@ -88,12 +87,12 @@ pub trait Editor {
         path: &NodePath,
         from: Option<&Source>,
     ) -> Result<Self::Dir, EditorFault>
-        ensures shown { OnOk result (Adds shows self.old self.new
-            (call.AddDir (dir_path up.old) path.now (option_copied from.entry) ∷ [])) }
+        ensures shown { Takes shows self.old self.new
+            (call.AddDir (dir_path up.old) path.now (option_copied from.entry)) result }
         ensures baton { IfOk result (λ d. dir_path d ≡ path.now) }
         ensures up { dir_path up.new ≡ dir_path up.old }
-        ensures refused { IfErr result (Refused shows began refuses self.old
-            (call.AddDir (dir_path up.old) path.now (option_copied from.entry))) }
+        ensures refused { MayRefuse shows began refuses self.old
+            (call.AddDir (dir_path up.old) path.now (option_copied from.entry)) result }
         ensures began { began self.new ≡ began self.old };
 
     /// Opens a directory in `up`.
@@ -103,11 +102,10 @@ pub trait Editor {
         path: &NodePath,
         base: Option<RevNo>,
     ) -> Result<Self::Dir, EditorFault>
-        ensures shown { OnOk result (Adds shows self.old self.new (call.OpenDir (dir_path up.old) path.now base ∷ [])) }
+        ensures shown { Takes shows self.old self.new (call.OpenDir (dir_path up.old) path.now base) result }
         ensures baton { IfOk result (λ d. dir_path d ≡ path.now) }
         ensures up { dir_path up.new ≡ dir_path up.old }
-        ensures refused { IfErr result (Refused shows began refuses self.old
-            (call.OpenDir (dir_path up.old) path.now base)) }
+        ensures refused { MayRefuse shows began refuses self.old (call.OpenDir (dir_path up.old) path.now base) result }
         ensures began { began self.new ≡ began self.old };
 
     /// Deletes an entry of `up`, a file or a directory with all that is in it.
@@ -117,11 +115,10 @@ pub trait Editor {
         path: &NodePath,
         base: Option<RevNo>,
     ) -> Result<(), EditorFault>
-        ensures shown { OnOk result (Adds shows self.old self.new
-            (call.DeleteEntry (dir_path up.old) path.now base ∷ [])) }
+        ensures shown { Takes shows self.old self.new (call.DeleteEntry (dir_path up.old) path.now base) result }
         ensures up { dir_path up.new ≡ dir_path up.old }
-        ensures refused { IfErr result (Refused shows began refuses self.old
-            (call.DeleteEntry (dir_path up.old) path.now base)) }
+        ensures refused { MayRefuse shows began refuses self.old
+            (call.DeleteEntry (dir_path up.old) path.now base) result }
         ensures began { began self.new ≡ began self.old };
 
     /// Gives a directory's property a value, or with none removes it.
@@ -131,17 +128,17 @@ pub trait Editor {
         name: &PropName,
         value: Option<&[u8]>,
     ) -> Result<(), EditorFault>
-        ensures shown { OnOk result (Adds shows self.old self.new
-            (call.DirProp (dir_path dir.old) name.now (option_map (λ v. v.now) value.entry) ∷ [])) }
+        ensures shown { Takes shows self.old self.new
+            (call.DirProp (dir_path dir.old) name.now (option_copied value.entry)) result }
         ensures baton { dir_path dir.new ≡ dir_path dir.old }
-        ensures refused { IfErr result (Refused shows began refuses self.old
-            (call.DirProp (dir_path dir.old) name.now (option_map (λ v. v.now) value.entry))) }
+        ensures refused { MayRefuse shows began refuses self.old
+            (call.DirProp (dir_path dir.old) name.now (option_copied value.entry)) result }
         ensures began { began self.new ≡ began self.old };
 
     /// Closes a directory.
     fn close_dir(&mut self, dir: Self::Dir) -> Result<(), EditorFault>
-        ensures shown { OnOk result (Adds shows self.old self.new (call.CloseDir (dir_path dir) ∷ [])) }
-        ensures refused { IfErr result (Refused shows began refuses self.old (call.CloseDir (dir_path dir))) }
+        ensures shown { Takes shows self.old self.new (call.CloseDir (dir_path dir)) result }
+        ensures refused { MayRefuse shows began refuses self.old (call.CloseDir (dir_path dir)) result }
         ensures began { began self.new ≡ began self.old };
 
     /// Lets go of an open directory after a refusal.
@@ -163,12 +160,12 @@ pub trait Editor {
         path: &NodePath,
         from: Option<&Source>,
     ) -> Result<Self::File, EditorFault>
-        ensures shown { OnOk result (Adds shows self.old self.new
-            (call.AddFile (dir_path up.old) path.now (option_copied from.entry) ∷ [])) }
+        ensures shown { Takes shows self.old self.new
+            (call.AddFile (dir_path up.old) path.now (option_copied from.entry)) result }
         ensures baton { IfOk result (λ d. file_path d ≡ path.now) }
         ensures up { dir_path up.new ≡ dir_path up.old }
-        ensures refused { IfErr result (Refused shows began refuses self.old
-            (call.AddFile (dir_path up.old) path.now (option_copied from.entry))) }
+        ensures refused { MayRefuse shows began refuses self.old
+            (call.AddFile (dir_path up.old) path.now (option_copied from.entry)) result }
         ensures began { began self.new ≡ began self.old };
 
     /// Opens a file in `up`.
@@ -178,12 +175,11 @@ pub trait Editor {
         path: &NodePath,
         base: Option<RevNo>,
     ) -> Result<Self::File, EditorFault>
-        ensures shown { OnOk result (Adds shows self.old self.new
-            (call.OpenFile (dir_path up.old) path.now base ∷ [])) }
+        ensures shown { Takes shows self.old self.new (call.OpenFile (dir_path up.old) path.now base) result }
         ensures baton { IfOk result (λ d. file_path d ≡ path.now) }
         ensures up { dir_path up.new ≡ dir_path up.old }
-        ensures refused { IfErr result (Refused shows began refuses self.old
-            (call.OpenFile (dir_path up.old) path.now base)) }
+        ensures refused { MayRefuse shows began refuses self.old
+            (call.OpenFile (dir_path up.old) path.now base) result }
         ensures began { began self.new ≡ began self.old };
 
     /// Gives a file's property a value, or with none removes it.
@@ -193,40 +189,39 @@ pub trait Editor {
         name: &PropName,
         value: Option<&[u8]>,
     ) -> Result<(), EditorFault>
-        ensures shown { OnOk result (Adds shows self.old self.new
-            (call.FileProp (file_path file.old) name.now (option_map (λ v. v.now) value.entry) ∷ [])) }
+        ensures shown { Takes shows self.old self.new
+            (call.FileProp (file_path file.old) name.now (option_copied value.entry)) result }
         ensures baton { file_path file.new ≡ file_path file.old }
-        ensures refused { IfErr result (Refused shows began refuses self.old
-            (call.FileProp (file_path file.old) name.now (option_map (λ v. v.now) value.entry))) }
+        ensures refused { MayRefuse shows began refuses self.old
+            (call.FileProp (file_path file.old) name.now (option_copied value.entry)) result }
         ensures began { began self.new ≡ began self.old };
 
     /// Begins a file's new text, which takes the place of the one before.
     fn text_start(&mut self, file: &mut Self::File) -> Result<(), EditorFault>
-        ensures shown { OnOk result (Adds shows self.old self.new (call.TextStart (file_path file.old) ∷ [])) }
+        ensures shown { Takes shows self.old self.new (call.TextStart (file_path file.old)) result }
         ensures baton { file_path file.new ≡ file_path file.old }
-        ensures refused { IfErr result (Refused shows began refuses self.old (call.TextStart (file_path file.old))) }
+        ensures refused { MayRefuse shows began refuses self.old (call.TextStart (file_path file.old)) result }
         ensures began { began self.new ≡ began self.old };
 
     /// Adds a piece to the text that has begun.
     fn text_piece(&mut self, file: &mut Self::File, piece: &[u8]) -> Result<(), EditorFault>
-        ensures shown { OnOk result (Adds shows self.old self.new
-            (call.TextPiece (file_path file.old) piece.now ∷ [])) }
+        ensures shown { Takes shows self.old self.new (call.TextPiece (file_path file.old) piece.now) result }
         ensures baton { file_path file.new ≡ file_path file.old }
-        ensures refused { IfErr result (Refused shows began refuses self.old
-            (call.TextPiece (file_path file.old) piece.now)) }
+        ensures refused { MayRefuse shows began refuses self.old
+            (call.TextPiece (file_path file.old) piece.now) result }
         ensures began { began self.new ≡ began self.old };
 
     /// Ends the text that has begun.
     fn text_end(&mut self, file: &mut Self::File) -> Result<(), EditorFault>
-        ensures shown { OnOk result (Adds shows self.old self.new (call.TextEnd (file_path file.old) ∷ [])) }
+        ensures shown { Takes shows self.old self.new (call.TextEnd (file_path file.old)) result }
         ensures baton { file_path file.new ≡ file_path file.old }
-        ensures refused { IfErr result (Refused shows began refuses self.old (call.TextEnd (file_path file.old))) }
+        ensures refused { MayRefuse shows began refuses self.old (call.TextEnd (file_path file.old)) result }
         ensures began { began self.new ≡ began self.old };
 
     /// Closes a file. `sum` is the MD5 of its text (RFC 1321) where it was given one.
     fn close_file(&mut self, file: Self::File, sum: Option<[u8; 16]>) -> Result<(), EditorFault>
-        ensures shown { OnOk result (Adds shows self.old self.new (call.CloseFile (file_path file) sum ∷ [])) }
-        ensures refused { IfErr result (Refused shows began refuses self.old (call.CloseFile (file_path file) sum)) }
+        ensures shown { Takes shows self.old self.new (call.CloseFile (file_path file) sum) result }
+        ensures refused { MayRefuse shows began refuses self.old (call.CloseFile (file_path file) sum) result }
         ensures began { began self.new ≡ began self.old };
 
     /// Lets go of an open file after a refusal.

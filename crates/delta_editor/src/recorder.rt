@@ -1,6 +1,6 @@
 //! An editor that keeps what it is shown.
 ghost use Rattle.std.specs.Prelude.{◌≡◌, [], ◌∷◌, ◌++◌, IfOk, OnOk};
-ghost use Rattle.std.specs.Option.{option_copied, option_map};
+ghost use Rattle.std.specs.Option.{option_copied};
 ghost use Rattle.delta_editor.specs.declared.call.Call.TheVariants as call;
 ghost use Rattle.delta_editor.specs.declared.fault.EditorFault.TheVariants.{OutOfMemory};
 
@@ -87,7 +87,7 @@ fn copied_source(alloc: Global, source: Option<&Source>) -> Result<Option<Source
 }
 
 fn copied_value(alloc: Global, value: Option<&[u8]>) -> Result<Option<Bytes>, AllocError>
-    ensures { IfOk result (λ v. v ≡ option_map (λ b. b.now) value.entry) }
+    ensures { IfOk result (λ v. v ≡ option_copied value.entry) }
 {
     match value {
         None => Ok(None),
