@@ -1,5 +1,5 @@
 -- A drive whose texts come as differences, by one in which they come whole: which items without differences its items stand for.
-use Rattle.std.specs.Prelude.{◌≡◌, ℕ, Bool, true, false, List, [], ◌∷◌, ◌++◌, Option, Some, None}
+use Rattle.std.specs.Prelude.{◌≡◌, ℕ, Bool, true, false, List, [], ◌∷◌, ◌++◌, Option, Some, None, Result, IfOk}
 use Rattle.ra_item.specs.Items.{Item, Items, Word, Text, Nested}
 use Rattle.node_base.specs.Path.{Path}
 use Rattle.delta_editor.specs.declared.call.Call.{Call}
@@ -13,9 +13,10 @@ use Rattle.ra_edit.specs.Commands.{list, command, chunk}
 use Rattle.ra_edit.specs.EditFaults.{of_delta}
 use Rattle.ra_edit.specs.Edits.{At, Begun, Ended, AllSay, IsCommand, IsSum, SumsTo}
 use Rattle.ra_edit.specs.Refusals.{path_at}
-use Rattle.ra_edit.specs.Receiving.{Param, AText, ASum, params_of, Forms}
+use Rattle.ra_edit.specs.Receiving.{Param, AText, ASum, params_of, left_of, Forms, FormsWith}
 use Rattle.ra_edit.specs.declared.command_fault.CommandFault.{CommandFault}
 use Rattle.ra_edit.specs.declared.receive_command.Command.{Command}
+use Rattle.ra_edit.specs.declared.receive_command.Params.{Params}
 use Rattle.ra_edit.specs.declared.shape_fault.ShapeFault.{ShapeFault}
 use Rattle.ra_edit.specs.declared.shape_fault.ShapeFault.TheVariants as shape
 use Rattle.ra_edit.specs.Names.{word_of}
@@ -29,6 +30,10 @@ SaysSum item sum = (t : List ℕ) (s : Items) → IsCommand (word_of word.ApplyT
 -- the same of a name and what stands in the brackets behind it
 abbrev pub SaysSumWith : Option (List ℕ) → Name → List Item → Type 0
 SaysSumWith sum n params = (rest : List Item) → SaysSum (list (Word (word_of n) ∷ list params ∷ rest)) sum
+
+-- a command of this name was read, and the sum of a base that it says
+abbrev pub ReadsOver : Params → Name → Result (Command × Option (List ℕ)) ShapeFault → Type 0
+ReadsOver params name result = IfOk result (λ p. FormsWith p.0 name (left_of params) × SaysSumWith p.1 name (left_of params))
 
 -- which parameters a command of a name has, where a text has the sum of its base
 abbrev pub params_over : Name → List Param

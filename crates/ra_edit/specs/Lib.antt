@@ -12,3 +12,6 @@ pub mod Tokens
 pub mod Received
 pub mod Wire
 pub mod Written
+pub mod Editing
+pub mod DeltaEditing
+pub mod Drives

@@ -1,5 +1,5 @@
 -- What is received of a drive: commands and their items.
-use Rattle.std.specs.Prelude.{◌≡◌, ◌⊎◌, ℕ, ◌≤◌, List, [], ◌∷◌, Option, reverse, Ok, ⊤}
+use Rattle.std.specs.Prelude.{◌≡◌, ◌⊎◌, ℕ, ◌≤◌, List, [], ◌∷◌, Option, reverse, Result, Ok, IfOk, IfErr, ⊤}
 use Rattle.std.specs.Option.{option_map}
 use Rattle.ra_item.specs.Items.{Item, Items, Word, Number, Text, Nested}
 use Rattle.node_base.specs.Path.{Path}
@@ -123,3 +123,17 @@ params_of word.Failure = []
 abbrev pub IsNoCommand : Item → ShapeFault → Type 0
 IsNoCommand x shape.OutOfMemory = Unit {0}
 IsNoCommand x shape.BadShape = (c : Command) → Forms c x → ⊥
+
+-- ---- what reading parameters answers
+
+-- the next one was read, and is such a one
+abbrev pub ReadsNext : {T : Type 0} → (T → Item → Type 0) → Params → Params → Result T ShapeFault → Type 0
+ReadsNext Is old new result = IfOk result (λ value. NextIs (Is value) (left_of old) (left_of new))
+
+-- a command of this name was read
+abbrev pub ReadsForm : Params → Name → Result Command ShapeFault → Type 0
+ReadsForm params name result = IfOk result (λ c. FormsWith c name (left_of params))
+
+-- a refusal comes only where such parameters can't be read
+abbrev pub Misses : {T : Type 0} → Params → List Param → Result T ShapeFault → Type 0
+Misses params wanted result = IfErr result (NotRead wanted (left_of params))

@@ -1,18 +1,17 @@
 //! An edit that is received, whose texts come as differences.
 
-ghost use Rattle.std.specs.Prelude.{◌≡◌, ℕ, List, [], Option, None, IfOk, IfErr, OnOk, OnErr, true, false, if◌then◌else◌};
+ghost use Rattle.std.specs.Prelude.{◌≡◌, Option, None, IfOk, IfErr, OnOk, OnErr, true, false, if◌then◌else◌};
 ghost use Rattle.svndiff.specs.Spelling.{windows, head};
 ghost use Rattle.svndiff.specs.DeltaReading.{is_between, is_failed};
-ghost use Rattle.ra_item.specs.Items.{Item};
-ghost use Rattle.ra_edit.specs.Edit.{StandsAt, Finishes, all_open, GivesUp};
-ghost use Rattle.ra_edit.specs.Edits.{At, Begun, SumsTo, IsCommand};
-ghost use Rattle.ra_edit.specs.Names.{word_of};
+ghost use Rattle.ra_edit.specs.Edit.{StandsAt};
+ghost use Rattle.ra_edit.specs.Edits.{Begun, SumsTo};
 ghost use Rattle.ra_edit.specs.declared.name.Name.TheVariants as word;
-ghost use Rattle.ra_edit.specs.Refusals.{refusal, RefusedFor, Meets, IfOwn};
+ghost use Rattle.ra_edit.specs.Refusals.{refusal};
 ghost use Rattle.ra_edit.specs.Differences.{GoesOn, RefusesBytes};
-ghost use Rattle.ra_edit.specs.DeltaEdits.{coming_in, DoneBy, RefusedBy};
 ghost use Rattle.ra_edit.specs.declared.command_fault.CommandFault.TheVariants as fault;
 ghost use Rattle.ra_edit.specs.declared.receive_command.Command.TheVariants as command;
+ghost use Rattle.ra_edit.specs.Editing.{RefusesAt, MayMeet, EndsEdit, IsGivenUp};
+ghost use Rattle.ra_edit.specs.DeltaEditing.{StepsOver, StepsAnyhow, RefusesOver, RefusesAnyhow};
 
 use crate::command_fault::CommandFault;
 use crate::receive_command::Command;
@@ -85,10 +84,8 @@ impl<E: TextEditor> DeltaEdit<E> {
     /// Does what a command says, which has this sum of a base; `finish-replay` answers true, and nothing is done for it
     /// yet.
     pub fn step(&mut self, command: Command, sum: Option<[u8; 16]>) -> Result<bool, CommandFault>
-        ensures moved { IfOk result (DoneBy (E.has_text (E.texts self.old.edit.editor)) E.shows E.dir_path E.file_path
-            self.old.edit self.new.edit (coming_in self.old.coming) (coming_in self.new.coming) command sum) }
-        ensures refused { IfErr result (RefusedBy (E.has_text (E.texts self.old.edit.editor)) E.shows E.began E.refuses
-            E.dir_path E.file_path self.old.edit self.new.edit (coming_in self.old.coming) command sum) }
+        ensures moved { StepsOver E.Editor E.texts E.has_text self.old self.new command sum result }
+        ensures refused { RefusesOver E.Editor E.texts E.has_text self.old self.new command sum result }
         ensures began { E.began self.new.edit.editor ≡ E.began self.old.edit.editor }
     {
         match command {
@@ -101,12 +98,9 @@ impl<E: TextEditor> DeltaEdit<E> {
 
     // Begins a text. What the file's text is so far is asked first.
     fn text_start(&mut self, token: Vec<u8>, sum: Option<[u8; 16]>) -> Result<bool, CommandFault>
-        ensures moved { IfOk result (DoneBy (E.has_text (E.texts self.old.edit.editor)) E.shows E.dir_path E.file_path
-            self.old.edit self.new.edit (coming_in self.old.coming) (coming_in self.new.coming)
-            (command.TextStart token) sum) }
-        ensures refused { IfErr result (RefusedBy (E.has_text (E.texts self.old.edit.editor)) E.shows E.began E.refuses
-            E.dir_path E.file_path self.old.edit self.new.edit (coming_in self.old.coming) (command.TextStart token)
-            sum) }
+        ensures moved { StepsOver E.Editor E.texts E.has_text self.old self.new (command.TextStart token) sum result }
+        ensures refused { RefusesOver E.Editor E.texts E.has_text self.old self.new
+            (command.TextStart token) sum result }
         ensures began { E.began self.new.edit.editor ≡ E.began self.old.edit.editor }
     {
         if self.edit.is_announced() {
@@ -127,12 +121,9 @@ impl<E: TextEditor> DeltaEdit<E> {
 
     // Takes bytes of the difference that is open.
     fn chunk(&mut self, token: Vec<u8>, bytes: Vec<u8>) -> Result<bool, CommandFault>
-        ensures moved { IfOk result (λ done. (sum : Option (List ℕ)) → DoneBy (E.has_text (E.texts self.old.edit.editor))
-            E.shows E.dir_path E.file_path self.old.edit self.new.edit (coming_in self.old.coming)
-            (coming_in self.new.coming) (command.Chunk token bytes) sum done) }
-        ensures refused { IfErr result (λ f. (sum : Option (List ℕ))
-            → RefusedBy (E.has_text (E.texts self.old.edit.editor)) E.shows E.began E.refuses E.dir_path E.file_path
-            self.old.edit self.new.edit (coming_in self.old.coming) (command.Chunk token bytes) sum f) }
+        ensures moved { StepsAnyhow E.Editor E.texts E.has_text self.old self.new (command.Chunk token bytes) result }
+        ensures refused { RefusesAnyhow E.Editor E.texts E.has_text self.old self.new
+            (command.Chunk token bytes) result }
         ensures began { E.began self.new.edit.editor ≡ E.began self.old.edit.editor }
     {
         self.edit.check_text(token.as_slice())?;
@@ -147,12 +138,8 @@ impl<E: TextEditor> DeltaEdit<E> {
 
     // Ends the difference that is open.
     fn text_end(&mut self, token: Vec<u8>) -> Result<bool, CommandFault>
-        ensures moved { IfOk result (λ done. (sum : Option (List ℕ)) → DoneBy (E.has_text (E.texts self.old.edit.editor))
-            E.shows E.dir_path E.file_path self.old.edit self.new.edit (coming_in self.old.coming)
-            (coming_in self.new.coming) (command.TextEnd token) sum done) }
-        ensures refused { IfErr result (λ f. (sum : Option (List ℕ))
-            → RefusedBy (E.has_text (E.texts self.old.edit.editor)) E.shows E.began E.refuses E.dir_path E.file_path
-            self.old.edit self.new.edit (coming_in self.old.coming) (command.TextEnd token) sum f) }
+        ensures moved { StepsAnyhow E.Editor E.texts E.has_text self.old self.new (command.TextEnd token) result }
+        ensures refused { RefusesAnyhow E.Editor E.texts E.has_text self.old self.new (command.TextEnd token) result }
         ensures began { E.began self.new.edit.editor ≡ E.began self.old.edit.editor }
     {
         self.edit.check_text(token.as_slice())?;
@@ -166,15 +153,11 @@ impl<E: TextEditor> DeltaEdit<E> {
 
     /// Ends the edit at `finish-replay`, as [`Edit::finish`].
     pub fn finish(self) -> Result<E::Done, CommandFault>
-        ensures done { IfOk result (λ d. (at : At) (item : Item) → IsCommand (word_of word.FinishReplay) [] item
-            → StandsAt E.dir_path E.file_path self.edit at
-            → Finishes E.shows E.done_shows self.edit.editor d item at) }
+        ensures done { EndsEdit E.Editor self.edit result }
         ensures began { IfOk result (λ d. E.done_began d ≡ E.began self.edit.editor) }
-        ensures refused { IfErr result (λ f. (at : At) → StandsAt E.dir_path E.file_path self.edit at
-            → RefusedFor f (refusal at command.Finish)) }
-        ensures own { IfErr result (IfOwn (λ f. (at : At) → StandsAt E.dir_path E.file_path self.edit at
-            → Meets E.shows E.began E.refuses self.edit.editor at command.Finish f)) }
-        ensures gives_up { OnErr result (GivesUp E.lets_go E.given_up (all_open E.dir_path E.file_path self.edit)) }
+        ensures refused { RefusesAt E.Editor self.edit (λ at. refusal at command.Finish) result }
+        ensures own { MayMeet E.Editor self.edit command.Finish result }
+        ensures gives_up { OnErr result (IsGivenUp E.Editor self.edit) }
     {
         let DeltaEdit {
             alloc: _,
@@ -186,7 +169,7 @@ impl<E: TextEditor> DeltaEdit<E> {
 
     /// Discards what is open, and aborts the edit.
     pub fn abort(self)
-        ensures { GivesUp E.lets_go E.given_up (all_open E.dir_path E.file_path self.edit) }
+        ensures { IsGivenUp E.Editor self.edit }
     {
         let DeltaEdit {
             alloc: _,

@@ -1,13 +1,12 @@
 //! An edit from its items.
 
-ghost use Rattle.std.specs.Prelude.{◌≡◌, ◌≤◌, ◌<◌, IfOk, IfErr, OnOk, OnErr, [], true, false};
-ghost use Rattle.ra_edit.specs.Edit.{StandsAt, all_open};
+ghost use Rattle.std.specs.Prelude.{◌≡◌, ◌<◌, IfOk, IfErr, OnOk, OnErr, true, false};
+ghost use Rattle.ra_edit.specs.Edit.{StandsAt};
 ghost use Rattle.ra_edit.specs.Edits.{Begun};
-ghost use Rattle.ra_item.specs.ItemStreams.{reader_of, meanwhile, is_spent, left, ahead};
-ghost use Rattle.byte_streams.specs.Causes.{Fails};
-ghost use Rattle.ra_edit.specs.declared.edit_fault.EditFault.TheVariants.{PeerFailed};
-ghost use Rattle.ra_edit.specs.Refusals.{Meets};
-ghost use Rattle.ra_edit.specs.Received.{Comes, TakesOne, Received, LeavesStill, StopsBehind, StopsWith, Abandons};
+ghost use Rattle.ra_item.specs.ItemStreams.{is_spent, left};
+ghost use Rattle.ra_edit.specs.Received.{LeavesStill};
+ghost use Rattle.ra_edit.specs.Drives.{CountsOn, TellsPeer, ReceivesEdit, AbandonsEdit, ReachesEnd, StopsWithin};
+ghost use Rattle.ra_edit.specs.Drives.{TakesCommand, StopsAtCommand};
 
 use crate::edit_fault::EditFault;
 use crate::receive_command::Command;
@@ -31,16 +30,11 @@ pub fn receive<I: Input + Drop, E: Editor>(
     items: &mut ItemStream<I>,
     editor: E,
 ) -> Result<E::Done, EditFault>
-    ensures received { IfOk result
-        (λ done. Received E.shows E.done_shows editor done (I.remaining (reader_of items.old))
-        (I.remaining (reader_of items.new)) (ahead items.old) (ahead items.new)) }
+    ensures received { ReceivesEdit E.Editor items.old items.new editor result }
     ensures began { IfOk result (λ done. E.done_began done ≡ E.began editor) }
-    ensures refused { IfErr result
-        (Abandons E.shows E.began E.refuses E.lets_go E.given_up editor (I.remaining (reader_of items.old))
-        (I.remaining (reader_of items.new)) (ahead items.old) (is_spent items.old)
-        (meanwhile I.failures I.reads items.old items.new)) }
-    ensures peer { IfErr result (λ f. f ≡ PeerFailed → Fails (meanwhile I.failures I.reads items.old items.new)) }
-    ensures failures { I.failures (reader_of items.old) ≤ I.failures (reader_of items.new) }
+    ensures refused { AbandonsEdit E.Editor items.old items.new editor result }
+    ensures peer { TellsPeer items.old items.new result }
+    ensures failures { CountsOn items.old items.new }
     ensures goes_on { OnOk result (is_spent items.new ≡ false) }
     ensures spent { OnErr result (is_spent items.new ≡ true) }
 {
@@ -67,15 +61,9 @@ fn take_commands<I: Input + Drop, E: Editor>(
 ) -> Result<(), EditFault>
     requires begun { StandsAt E.dir_path E.file_path edit.old Begun }
     ensures began { E.began edit.new.editor ≡ E.began edit.old.editor }
-    ensures comes { OnOk result
-        (Comes E.shows edit.old.editor edit.new.editor (I.remaining (reader_of items.old))
-        (I.remaining (reader_of items.new)) (ahead items.old) (ahead items.new)
-        (StandsAt E.dir_path E.file_path edit.new)) }
-    ensures refused { IfErr result
-        (StopsWith E.shows E.began E.refuses edit.old.editor (I.remaining (reader_of items.old))
-        (I.remaining (reader_of items.new)) (ahead items.old) (is_spent items.old)
-        (meanwhile I.failures I.reads items.old items.new) (all_open E.dir_path E.file_path edit.new)) }
-    ensures failures { I.failures (reader_of items.old) ≤ I.failures (reader_of items.new) }
+    ensures comes { ReachesEnd E.Editor items.old items.new edit.old edit.new result }
+    ensures refused { StopsWithin E.Editor items.old items.new edit.old edit.new result }
+    ensures failures { CountsOn items.old items.new }
     ensures goes_on { OnOk result (is_spent items.new ≡ false) }
 {
     loop {
@@ -92,18 +80,10 @@ fn take_command<I: Input + Drop, E: Editor>(
     edit: &mut Edit<E>,
 ) -> Result<bool, EditFault>
     ensures began { E.began edit.new.editor ≡ E.began edit.old.editor }
-    ensures taken { IfOk result
-        (TakesOne E.shows edit.old.editor edit.new.editor (I.remaining (reader_of items.old))
-        (I.remaining (reader_of items.new)) (ahead items.old) (ahead items.new)
-        (StandsAt E.dir_path E.file_path edit.old)
-        (StandsAt E.dir_path E.file_path edit.new)) }
-    ensures refused { IfErr result
-        (StopsBehind (Meets E.shows E.began E.refuses edit.old.editor) []
-        (StandsAt E.dir_path E.file_path edit.old)
-        (I.remaining (reader_of items.old)) (I.remaining (reader_of items.new)) (ahead items.old) (is_spent items.old)
-        (meanwhile I.failures I.reads items.old items.new)) }
+    ensures taken { TakesCommand E.Editor items.old items.new edit.old edit.new result }
+    ensures refused { StopsAtCommand E.Editor items.old items.new edit.old result }
     ensures still { IfErr result (LeavesStill E.dir_path E.file_path edit.old edit.new) }
-    ensures failures { I.failures (reader_of items.old) ≤ I.failures (reader_of items.new) }
+    ensures failures { CountsOn items.old items.new }
     ensures goes_on { OnOk result (is_spent items.new ≡ false) }
     ensures fewer { OnOk result (left items.new < left items.old) }
 {

@@ -8,10 +8,10 @@ ghost use Rattle.node_base.specs.PathText.{path_read};
 ghost use Rattle.node_base.specs.Props.{prop_name_read};
 ghost use Rattle.ra_edit.specs.Commands.{list};
 ghost use Rattle.ra_edit.specs.Edits.{IsRevision, IsString, IsSum, IsSource};
-ghost use Rattle.ra_edit.specs.Differences.{SaysSum, SaysSumWith, IsNoDelta, params_over};
-ghost use Rattle.ra_edit.specs.Receiving.{left_of, NextIs, IsPath, IsPropName, Forms, FormsWith, AWord, AText, AList};
+ghost use Rattle.ra_edit.specs.Differences.{SaysSum, IsNoDelta, params_over, ReadsOver};
+ghost use Rattle.ra_edit.specs.Receiving.{left_of, IsPath, IsPropName, Forms, AWord, AText, AList};
 ghost use Rattle.ra_edit.specs.Receiving.{ARevision, APath, APropName, ABase, AValue, ASum, ASource, NotRead};
-ghost use Rattle.ra_edit.specs.Receiving.{params_of, IsNoCommand};
+ghost use Rattle.ra_edit.specs.Receiving.{params_of, IsNoCommand, ReadsNext, ReadsForm, Misses};
 ghost use Rattle.ra_edit.specs.declared.name.Name.TheVariants as word;
 ghost use Rattle.ra_edit.specs.declared.shape_fault.ShapeFault.TheVariants as shape;
 ghost use Rattle.node_base.specs.Path.{Path};
@@ -106,7 +106,7 @@ impl Params {
     // The next item, which is a word.
     fn word(&mut self) -> Result<Vec<u8>, ShapeFault>
         ensures read { IfOk result (λ w. left_of self.old ≡ Word w.items ∷ left_of self.new) }
-        ensures none { IfErr result (NotRead (AWord ∷ []) (left_of self.old)) }
+        ensures none { Misses self.old (AWord ∷ []) result }
     {
         match self.next()?.into_content() {
             Content::Word(word) => Ok(word),
@@ -117,7 +117,7 @@ impl Params {
     // The next item, which is a string.
     fn text(&mut self) -> Result<Vec<u8>, ShapeFault>
         ensures read { IfOk result (λ t. left_of self.old ≡ Text t.items ∷ left_of self.new) }
-        ensures none { IfErr result (NotRead (AText ∷ []) (left_of self.old)) }
+        ensures none { Misses self.old (AText ∷ []) result }
     {
         match self.next()?.into_content() {
             Content::Text(text) => Ok(text),
@@ -128,7 +128,7 @@ impl Params {
     // The next item, which is a list.
     fn list(&mut self) -> Result<Params, ShapeFault>
         ensures read { IfOk result (λ p. left_of self.old ≡ list (left_of p) ∷ left_of self.new) }
-        ensures none { IfErr result (NotRead (AList ∷ []) (left_of self.old)) }
+        ensures none { Misses self.old (AList ∷ []) result }
     {
         Params::of(self.next()?)
     }
@@ -136,7 +136,7 @@ impl Params {
     // The next item, which is a revision.
     fn revision(&mut self) -> Result<RevNo, ShapeFault>
         ensures read { IfOk result (λ n. (n ≤ REVISION) × (left_of self.old ≡ Number n ∷ left_of self.new)) }
-        ensures none { IfErr result (NotRead (ARevision ∷ []) (left_of self.old)) }
+        ensures none { Misses self.old (ARevision ∷ []) result }
     {
         match self.next()?.into_content() {
             Content::Number(n) if n <= REVISION as u64 => Ok(RevNo::new(n as u16)),
@@ -156,8 +156,8 @@ impl Params {
 
     // The next item, which is a path.
     fn path(&mut self, alloc: Global) -> Result<NodePath, ShapeFault>
-        ensures read { IfOk result (λ p. NextIs (IsPath p) (left_of self.old) (left_of self.new)) }
-        ensures none { IfErr result (NotRead (APath ∷ []) (left_of self.old)) }
+        ensures read { ReadsNext IsPath self.old self.new result }
+        ensures none { Misses self.old (APath ∷ []) result }
     {
         let text = self.text()?;
         read_path(alloc, text.as_slice())
@@ -165,8 +165,8 @@ impl Params {
 
     // The next item, which is a property's name.
     fn prop_name(&mut self) -> Result<PropName, ShapeFault>
-        ensures read { IfOk result (λ n. NextIs (IsPropName n) (left_of self.old) (left_of self.new)) }
-        ensures none { IfErr result (NotRead (APropName ∷ []) (left_of self.old)) }
+        ensures read { ReadsNext IsPropName self.old self.new result }
+        ensures none { Misses self.old (APropName ∷ []) result }
     {
         match PropName::from_bytes(self.text()?) {
             Ok(name) => Ok(name),
@@ -177,8 +177,8 @@ impl Params {
 
     // The next item, which is a list of a revision or of nothing.
     fn base(&mut self) -> Result<Option<RevNo>, ShapeFault>
-        ensures read { IfOk result (λ b. NextIs (IsRevision b) (left_of self.old) (left_of self.new)) }
-        ensures none { IfErr result (NotRead (ABase ∷ []) (left_of self.old)) }
+        ensures read { ReadsNext IsRevision self.old self.new result }
+        ensures none { Misses self.old (ABase ∷ []) result }
     {
         let mut inner = self.list()?;
         if inner.is_empty() {
@@ -189,9 +189,8 @@ impl Params {
 
     // The next item, which is a list of a string or of nothing.
     fn value(&mut self) -> Result<Option<Vec<u8>>, ShapeFault>
-        ensures read { IfOk result
-            (λ v. NextIs (IsString (option_map (λ s. s.items) v)) (left_of self.old) (left_of self.new)) }
-        ensures none { IfErr result (NotRead (AValue ∷ []) (left_of self.old)) }
+        ensures read { ReadsNext (λ v. IsString (option_map (λ s. s.items) v)) self.old self.new result }
+        ensures none { Misses self.old (AValue ∷ []) result }
     {
         let mut inner = self.list()?;
         if inner.is_empty() {
@@ -202,8 +201,8 @@ impl Params {
 
     // The next item, which is a list of a sum in hexadecimal digits or of nothing.
     fn sum(&mut self) -> Result<Option<[u8; 16]>, ShapeFault>
-        ensures read { IfOk result (λ sum. NextIs (IsSum sum) (left_of self.old) (left_of self.new)) }
-        ensures none { IfErr result (NotRead (ASum ∷ []) (left_of self.old)) }
+        ensures read { ReadsNext IsSum self.old self.new result }
+        ensures none { Misses self.old (ASum ∷ []) result }
     {
         let Some(digits) = self.value()? else {
             return Ok(None);
@@ -217,8 +216,8 @@ impl Params {
 
     // The next item, which is a list of a source's path, behind one slash or none, and its revision, or of nothing.
     fn source(&mut self, alloc: Global) -> Result<Option<Source>, ShapeFault>
-        ensures read { IfOk result (λ from. NextIs (IsSource from) (left_of self.old) (left_of self.new)) }
-        ensures none { IfErr result (NotRead (ASource ∷ []) (left_of self.old)) }
+        ensures read { ReadsNext IsSource self.old self.new result }
+        ensures none { Misses self.old (ASource ∷ []) result }
     {
         let mut inner = self.list()?;
         if inner.is_empty() {
@@ -296,9 +295,8 @@ fn over_base(
     name: Name,
     params: &mut Params,
 ) -> Result<(Command, Option<[u8; 16]>), ShapeFault>
-    ensures forms { IfOk result (λ p. FormsWith p.0 name (left_of params.old)
-        × SaysSumWith p.1 name (left_of params.old)) }
-    ensures none { IfErr result (NotRead (params_over name) (left_of params.old)) }
+    ensures forms { ReadsOver params.old name result }
+    ensures none { Misses params.old (params_over name) result }
 {
     if let Name::ApplyTextdelta = name {
         return text_over_base(params);
@@ -310,9 +308,8 @@ fn over_base(
 }
 
 fn text_over_base(params: &mut Params) -> Result<(Command, Option<[u8; 16]>), ShapeFault>
-    ensures forms { IfOk result (λ p. FormsWith p.0 word.ApplyTextdelta (left_of params.old)
-        × SaysSumWith p.1 word.ApplyTextdelta (left_of params.old)) }
-    ensures none { IfErr result (NotRead (params_over word.ApplyTextdelta) (left_of params.old)) }
+    ensures forms { ReadsOver params.old word.ApplyTextdelta result }
+    ensures none { Misses params.old (params_over word.ApplyTextdelta) result }
 {
     let token = params.text()?;
     let sum = params.sum()?;
@@ -320,8 +317,8 @@ fn text_over_base(params: &mut Params) -> Result<(Command, Option<[u8; 16]>), Sh
 }
 
 fn any_command(alloc: Global, name: Name, params: &mut Params) -> Result<Command, ShapeFault>
-    ensures forms { IfOk result (λ c. FormsWith c name (left_of params.old)) }
-    ensures none { IfErr result (NotRead (params_of name) (left_of params.old)) }
+    ensures forms { ReadsForm params.old name result }
+    ensures none { Misses params.old (params_of name) result }
 {
     match name {
         Name::TargetRev => target_rev(params),
@@ -345,23 +342,23 @@ fn any_command(alloc: Global, name: Name, params: &mut Params) -> Result<Command
 }
 
 fn target_rev(params: &mut Params) -> Result<Command, ShapeFault>
-    ensures forms { IfOk result (λ c. FormsWith c word.TargetRev (left_of params.old)) }
-    ensures none { IfErr result (NotRead (params_of word.TargetRev) (left_of params.old)) }
+    ensures forms { ReadsForm params.old word.TargetRev result }
+    ensures none { Misses params.old (params_of word.TargetRev) result }
 {
     Ok(Command::Target(params.revision()?))
 }
 
 fn open_root(params: &mut Params) -> Result<Command, ShapeFault>
-    ensures forms { IfOk result (λ c. FormsWith c word.OpenRoot (left_of params.old)) }
-    ensures none { IfErr result (NotRead (params_of word.OpenRoot) (left_of params.old)) }
+    ensures forms { ReadsForm params.old word.OpenRoot result }
+    ensures none { Misses params.old (params_of word.OpenRoot) result }
 {
     let base = params.base()?;
     Ok(Command::OpenRoot(base, params.text()?))
 }
 
 fn delete_entry(alloc: Global, params: &mut Params) -> Result<Command, ShapeFault>
-    ensures forms { IfOk result (λ c. FormsWith c word.DeleteEntry (left_of params.old)) }
-    ensures none { IfErr result (NotRead (params_of word.DeleteEntry) (left_of params.old)) }
+    ensures forms { ReadsForm params.old word.DeleteEntry result }
+    ensures none { Misses params.old (params_of word.DeleteEntry) result }
 {
     let path = params.path(alloc)?;
     let base = params.base()?;
@@ -369,8 +366,8 @@ fn delete_entry(alloc: Global, params: &mut Params) -> Result<Command, ShapeFaul
 }
 
 fn add_dir(alloc: Global, params: &mut Params) -> Result<Command, ShapeFault>
-    ensures forms { IfOk result (λ c. FormsWith c word.AddDir (left_of params.old)) }
-    ensures none { IfErr result (NotRead (params_of word.AddDir) (left_of params.old)) }
+    ensures forms { ReadsForm params.old word.AddDir result }
+    ensures none { Misses params.old (params_of word.AddDir) result }
 {
     let path = params.path(alloc)?;
     let up = params.text()?;
@@ -379,8 +376,8 @@ fn add_dir(alloc: Global, params: &mut Params) -> Result<Command, ShapeFault>
 }
 
 fn open_dir(alloc: Global, params: &mut Params) -> Result<Command, ShapeFault>
-    ensures forms { IfOk result (λ c. FormsWith c word.OpenDir (left_of params.old)) }
-    ensures none { IfErr result (NotRead (params_of word.OpenDir) (left_of params.old)) }
+    ensures forms { ReadsForm params.old word.OpenDir result }
+    ensures none { Misses params.old (params_of word.OpenDir) result }
 {
     let path = params.path(alloc)?;
     let up = params.text()?;
@@ -389,8 +386,8 @@ fn open_dir(alloc: Global, params: &mut Params) -> Result<Command, ShapeFault>
 }
 
 fn change_dir_prop(params: &mut Params) -> Result<Command, ShapeFault>
-    ensures forms { IfOk result (λ c. FormsWith c word.ChangeDirProp (left_of params.old)) }
-    ensures none { IfErr result (NotRead (params_of word.ChangeDirProp) (left_of params.old)) }
+    ensures forms { ReadsForm params.old word.ChangeDirProp result }
+    ensures none { Misses params.old (params_of word.ChangeDirProp) result }
 {
     let token = params.text()?;
     let name = params.prop_name()?;
@@ -398,15 +395,15 @@ fn change_dir_prop(params: &mut Params) -> Result<Command, ShapeFault>
 }
 
 fn close_dir(params: &mut Params) -> Result<Command, ShapeFault>
-    ensures forms { IfOk result (λ c. FormsWith c word.CloseDir (left_of params.old)) }
-    ensures none { IfErr result (NotRead (params_of word.CloseDir) (left_of params.old)) }
+    ensures forms { ReadsForm params.old word.CloseDir result }
+    ensures none { Misses params.old (params_of word.CloseDir) result }
 {
     Ok(Command::CloseDir(params.text()?))
 }
 
 fn add_file(alloc: Global, params: &mut Params) -> Result<Command, ShapeFault>
-    ensures forms { IfOk result (λ c. FormsWith c word.AddFile (left_of params.old)) }
-    ensures none { IfErr result (NotRead (params_of word.AddFile) (left_of params.old)) }
+    ensures forms { ReadsForm params.old word.AddFile result }
+    ensures none { Misses params.old (params_of word.AddFile) result }
 {
     let path = params.path(alloc)?;
     let up = params.text()?;
@@ -415,8 +412,8 @@ fn add_file(alloc: Global, params: &mut Params) -> Result<Command, ShapeFault>
 }
 
 fn open_file(alloc: Global, params: &mut Params) -> Result<Command, ShapeFault>
-    ensures forms { IfOk result (λ c. FormsWith c word.OpenFile (left_of params.old)) }
-    ensures none { IfErr result (NotRead (params_of word.OpenFile) (left_of params.old)) }
+    ensures forms { ReadsForm params.old word.OpenFile result }
+    ensures none { Misses params.old (params_of word.OpenFile) result }
 {
     let path = params.path(alloc)?;
     let up = params.text()?;
@@ -425,8 +422,8 @@ fn open_file(alloc: Global, params: &mut Params) -> Result<Command, ShapeFault>
 }
 
 fn change_file_prop(params: &mut Params) -> Result<Command, ShapeFault>
-    ensures forms { IfOk result (λ c. FormsWith c word.ChangeFileProp (left_of params.old)) }
-    ensures none { IfErr result (NotRead (params_of word.ChangeFileProp) (left_of params.old)) }
+    ensures forms { ReadsForm params.old word.ChangeFileProp result }
+    ensures none { Misses params.old (params_of word.ChangeFileProp) result }
 {
     let token = params.text()?;
     let name = params.prop_name()?;
@@ -434,8 +431,8 @@ fn change_file_prop(params: &mut Params) -> Result<Command, ShapeFault>
 }
 
 fn apply_textdelta(params: &mut Params) -> Result<Command, ShapeFault>
-    ensures forms { IfOk result (λ c. FormsWith c word.ApplyTextdelta (left_of params.old)) }
-    ensures none { IfErr result (NotRead (params_of word.ApplyTextdelta) (left_of params.old)) }
+    ensures forms { ReadsForm params.old word.ApplyTextdelta result }
+    ensures none { Misses params.old (params_of word.ApplyTextdelta) result }
 {
     let token = params.text()?;
     let _sum = params.list()?;
@@ -443,23 +440,23 @@ fn apply_textdelta(params: &mut Params) -> Result<Command, ShapeFault>
 }
 
 fn textdelta_chunk(params: &mut Params) -> Result<Command, ShapeFault>
-    ensures forms { IfOk result (λ c. FormsWith c word.TextdeltaChunk (left_of params.old)) }
-    ensures none { IfErr result (NotRead (params_of word.TextdeltaChunk) (left_of params.old)) }
+    ensures forms { ReadsForm params.old word.TextdeltaChunk result }
+    ensures none { Misses params.old (params_of word.TextdeltaChunk) result }
 {
     let token = params.text()?;
     Ok(Command::Chunk(token, params.text()?))
 }
 
 fn textdelta_end(params: &mut Params) -> Result<Command, ShapeFault>
-    ensures forms { IfOk result (λ c. FormsWith c word.TextdeltaEnd (left_of params.old)) }
-    ensures none { IfErr result (NotRead (params_of word.TextdeltaEnd) (left_of params.old)) }
+    ensures forms { ReadsForm params.old word.TextdeltaEnd result }
+    ensures none { Misses params.old (params_of word.TextdeltaEnd) result }
 {
     Ok(Command::TextEnd(params.text()?))
 }
 
 fn close_file(params: &mut Params) -> Result<Command, ShapeFault>
-    ensures forms { IfOk result (λ c. FormsWith c word.CloseFile (left_of params.old)) }
-    ensures none { IfErr result (NotRead (params_of word.CloseFile) (left_of params.old)) }
+    ensures forms { ReadsForm params.old word.CloseFile result }
+    ensures none { Misses params.old (params_of word.CloseFile) result }
 {
     let token = params.text()?;
     Ok(Command::CloseFile(token, params.sum()?))

@@ -1,12 +1,11 @@
 //! An edit from its items, whose texts come as differences.
 
-ghost use Rattle.std.specs.Prelude.{◌≡◌, ◌≤◌, ◌<◌, IfOk, IfErr, OnOk, OnErr, None, true, false};
-ghost use Rattle.ra_item.specs.ItemStreams.{reader_of, meanwhile, is_spent, left, ahead};
-ghost use Rattle.byte_streams.specs.Causes.{Fails};
-ghost use Rattle.ra_edit.specs.declared.edit_fault.EditFault.TheVariants.{PeerFailed};
-ghost use Rattle.ra_edit.specs.Edit.{StandsAt, all_open};
+ghost use Rattle.std.specs.Prelude.{◌≡◌, ◌<◌, IfOk, OnOk, OnErr, None, true, false};
+ghost use Rattle.ra_item.specs.ItemStreams.{is_spent, left};
+ghost use Rattle.ra_edit.specs.Edit.{StandsAt};
 ghost use Rattle.ra_edit.specs.Edits.{Begun};
-ghost use Rattle.ra_edit.specs.DeltaEdits.{coming_in, StandsWith, ComesBy, TakesOneBy, StopsOneBy, ReceivedDeltas, StopsDeltas, AbandonsDeltas};
+ghost use Rattle.ra_edit.specs.Drives.{CountsOn, TellsPeer, ReceivesOver, AbandonsOver, ReachesEndOver};
+ghost use Rattle.ra_edit.specs.Drives.{StopsWithinOver, TakesCommandOver, StopsAtCommandOver};
 
 use crate::delta_edit::DeltaEdit;
 use crate::edit_fault::EditFault;
@@ -29,15 +28,11 @@ pub fn receive_deltas<I: Input + Drop, E: TextEditor>(
     items: &mut ItemStream<I>,
     editor: E,
 ) -> Result<E::Done, EditFault>
-    ensures received { IfOk result (λ done. ReceivedDeltas (E.has_text (E.texts editor)) E.shows E.done_shows editor
-        done (I.remaining (reader_of items.old)) (I.remaining (reader_of items.new)) (ahead items.old)
-        (ahead items.new)) }
+    ensures received { ReceivesOver E.Editor E.texts E.has_text items.old items.new editor result }
     ensures began { IfOk result (λ done. E.done_began done ≡ E.began editor) }
-    ensures refused { IfErr result (AbandonsDeltas (E.has_text (E.texts editor)) E.shows E.began E.refuses E.lets_go
-        E.given_up editor (I.remaining (reader_of items.old)) (I.remaining (reader_of items.new)) (ahead items.old)
-        (is_spent items.old) (meanwhile I.failures I.reads items.old items.new)) }
-    ensures peer { IfErr result (λ f. f ≡ PeerFailed → Fails (meanwhile I.failures I.reads items.old items.new)) }
-    ensures failures { I.failures (reader_of items.old) ≤ I.failures (reader_of items.new) }
+    ensures refused { AbandonsOver E.Editor E.texts E.has_text items.old items.new editor result }
+    ensures peer { TellsPeer items.old items.new result }
+    ensures failures { CountsOn items.old items.new }
     ensures goes_on { OnOk result (is_spent items.new ≡ false) }
     ensures spent { OnErr result (is_spent items.new ≡ true) }
 {
@@ -65,15 +60,9 @@ fn take_commands<I: Input + Drop, E: TextEditor>(
     requires begun { StandsAt E.dir_path E.file_path edit.old.edit Begun }
     requires none { edit.old.coming ≡ None }
     ensures began { E.began edit.new.edit.editor ≡ E.began edit.old.edit.editor }
-    ensures comes { OnOk result (ComesBy (E.has_text (E.texts edit.old.edit.editor)) E.shows edit.old.edit.editor
-        edit.new.edit.editor (I.remaining (reader_of items.old)) (I.remaining (reader_of items.new)) (ahead items.old)
-        (ahead items.new) (coming_in edit.new.coming)
-        (StandsWith E.dir_path E.file_path edit.new.edit (coming_in edit.new.coming))) }
-    ensures refused { IfErr result (StopsDeltas (E.has_text (E.texts edit.old.edit.editor)) E.shows E.began E.refuses
-        edit.old.edit.editor (I.remaining (reader_of items.old)) (I.remaining (reader_of items.new)) (ahead items.old)
-        (is_spent items.old) (meanwhile I.failures I.reads items.old items.new)
-        (all_open E.dir_path E.file_path edit.new.edit)) }
-    ensures failures { I.failures (reader_of items.old) ≤ I.failures (reader_of items.new) }
+    ensures comes { ReachesEndOver E.Editor E.texts E.has_text items.old items.new edit.old edit.new result }
+    ensures refused { StopsWithinOver E.Editor E.texts E.has_text items.old items.new edit.old edit.new result }
+    ensures failures { CountsOn items.old items.new }
     ensures goes_on { OnOk result (is_spent items.new ≡ false) }
 {
     loop {
@@ -90,17 +79,9 @@ fn take_command<I: Input + Drop, E: TextEditor>(
     edit: &mut DeltaEdit<E>,
 ) -> Result<bool, EditFault>
     ensures began { E.began edit.new.edit.editor ≡ E.began edit.old.edit.editor }
-    ensures taken { IfOk result (TakesOneBy (E.has_text (E.texts edit.old.edit.editor)) E.shows edit.old.edit.editor
-        edit.new.edit.editor (I.remaining (reader_of items.old)) (I.remaining (reader_of items.new)) (ahead items.old)
-        (ahead items.new) (coming_in edit.old.coming) (coming_in edit.new.coming)
-        (StandsWith E.dir_path E.file_path edit.old.edit (coming_in edit.old.coming))
-        (StandsWith E.dir_path E.file_path edit.new.edit (coming_in edit.new.coming))) }
-    ensures refused { IfErr result (StopsOneBy (E.has_text (E.texts edit.old.edit.editor)) E.shows E.began E.refuses
-        edit.old.edit.editor (StandsWith E.dir_path E.file_path edit.old.edit (coming_in edit.old.coming))
-        (coming_in edit.old.coming) (I.remaining (reader_of items.old)) (I.remaining (reader_of items.new))
-        (ahead items.old) (is_spent items.old) (meanwhile I.failures I.reads items.old items.new)
-        (all_open E.dir_path E.file_path edit.new.edit)) }
-    ensures failures { I.failures (reader_of items.old) ≤ I.failures (reader_of items.new) }
+    ensures taken { TakesCommandOver E.Editor E.texts E.has_text items.old items.new edit.old edit.new result }
+    ensures refused { StopsAtCommandOver E.Editor E.texts E.has_text items.old items.new edit.old edit.new result }
+    ensures failures { CountsOn items.old items.new }
     ensures goes_on { OnOk result (is_spent items.new ≡ false) }
     ensures fewer { OnOk result (left items.new < left items.old) }
 {

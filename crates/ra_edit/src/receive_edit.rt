@@ -1,30 +1,32 @@
 //! An edit that is received: what is open, and what a command does.
 
-ghost use Rattle.std.specs.Prelude.{◌≡◌, ◌+◌, ◌≤◌, ◌<◌, ◌++◌, ◌∷◌, ◌&&◌, [], ℕ};
-ghost use Rattle.std.specs.Prelude.{List, Option, map, length, reverse, IfOk, IfErr, IsSomeAnd, OnOk, OnErr, Ok, Err};
+ghost use Rattle.std.specs.Prelude.{◌≡◌, ◌+◌, ◌≤◌, ◌<◌, ◌∷◌, ◌&&◌, []};
+ghost use Rattle.std.specs.Prelude.{Option, length, reverse, IfOk, IfErr, IsSomeAnd, OnOk, OnErr, Ok, Err};
 ghost use Rattle.std.specs.Prelude.{Some, None, true, false, vec_len, vec_capacity, slice_get};
 ghost use Rattle.std.specs.Option.{option_copied, option_map};
 ghost use Rattle.std.specs.List.{concat};
 ghost use Rattle.md5.specs.Md5.{Holds, md5};
-ghost use Rattle.ra_item.specs.Items.{Item};
 ghost use Rattle.node_base.specs.Path.{same_name};
 ghost use Rattle.delta_editor.specs.Calls.{Adds, LetsGo, StaysShown};
 ghost use Rattle.delta_editor.specs.declared.call.Call.{Call};
 ghost use Rattle.delta_editor.specs.declared.call.Call.TheVariants as call;
 ghost use Rattle.svndiff.specs.Streams.{reading, Reads};
-ghost use Rattle.ra_edit.specs.Edits.{Held, At, Begun, is_free, last_calls, Within, IsCommand};
-ghost use Rattle.ra_edit.specs.Names.{word_of};
+ghost use Rattle.ra_edit.specs.Edits.{At, Begun, is_free, last_calls, Within};
 ghost use Rattle.ra_edit.specs.declared.name.Name.TheVariants as word;
-ghost use Rattle.ra_edit.specs.Receiving.{Forms};
-ghost use Rattle.ra_edit.specs.Refusals.{open_of, unless, is_in_dir, has_dir, for_token, in_file, at_start, at_text, behind_end, of_stream};
-ghost use Rattle.ra_edit.specs.Refusals.{at_chunk, at_end, at_close, is_finish, due, refusal, RefusedFor, ReadFirst};
-ghost use Rattle.ra_edit.specs.Refusals.{RefusesOne, Meets, IfOwn};
+ghost use Rattle.ra_edit.specs.Refusals.{open_of, unless, is_in_dir, has_dir, for_token, in_file, at_start, at_text};
+ghost use Rattle.ra_edit.specs.Refusals.{behind_end, of_stream};
+ghost use Rattle.ra_edit.specs.Refusals.{at_chunk, at_end, at_close, is_finish, due, refusal, RefusedFor};
+ghost use Rattle.ra_edit.specs.Refusals.{RefusesOne, IfOwn};
 ghost use Rattle.ra_edit.specs.declared.command_fault.CommandFault.{CommandFault};
 ghost use Rattle.ra_edit.specs.declared.command_fault.CommandFault.TheVariants as fault;
-ghost use Rattle.ra_edit.specs.Edit.{StandsAt, Performs, RefusedAs, MetAs, GivenIs, dirs_named, is_unopened, is_announced, has_root, dir_paths, TextEnds};
-ghost use Rattle.ra_edit.specs.Edit.{SumIs, FileMoves, IsBase, IsGivenText, IsInText, Stepped, Finishes, all_open, LeavesOpen, GivesUp};
+ghost use Rattle.ra_edit.specs.Edit.{StandsAt, RefusedAs, dirs_named, is_unopened, is_announced, has_root, dir_paths};
+ghost use Rattle.ra_edit.specs.Edit.{TextEnds};
+ghost use Rattle.ra_edit.specs.Edit.{SumIs, IsBase, IsGivenText, IsInText, all_open};
 ghost use Rattle.ra_edit.specs.declared.receive_command.Command.TheVariants as command;
 ghost use Rattle.ra_edit.specs.declared.receive_edit.Given.TheVariants as given;
+ghost use Rattle.ra_edit.specs.Editing.{Does, Steps, RefusesAt, RefusesDue, MayMeet, KeepsOpen, TakesInnermost};
+ghost use Rattle.ra_edit.specs.Editing.{EndsEdit, IsGivenUp, DoesInFile, RefusesGiven, RefusesInFile, MeetsOne};
+ghost use Rattle.ra_edit.specs.Editing.{MeetsPiece};
 
 use crate::command_fault::CommandFault;
 use crate::receive_command::Command;
@@ -108,15 +110,10 @@ impl<E: Editor> Edit<E> {
 
     /// Does what a command says; `finish-replay` answers true, and nothing is done for it yet.
     pub fn step(&mut self, command: Command) -> Result<bool, CommandFault>
-        ensures moved { IfOk result (λ done. (at : At) (item : Item) → Forms command item
-            → StandsAt E.dir_path E.file_path self.old at
-            → Stepped E.shows self.old.editor self.new.editor item at
-            (StandsAt E.dir_path E.file_path self.new) done) }
-        ensures refused { IfErr result (λ f. (at : At)
-            → StandsAt E.dir_path E.file_path self.old at
-            → RefusedFor f (refusal at command)) }
-        ensures own { IfErr result (IfOwn (MetAs E.dir_path E.file_path E.shows E.began E.refuses self.old command)) }
-        ensures still { IfErr result (LeavesOpen E.dir_path E.file_path self.old self.new command) }
+        ensures moved { Steps E.Editor self.old self.new command result }
+        ensures refused { RefusesAt E.Editor self.old (λ at. refusal at command) result }
+        ensures own { MayMeet E.Editor self.old command result }
+        ensures still { KeepsOpen E.Editor self.old self.new command result }
         ensures began { E.began self.new.editor ≡ E.began self.old.editor }
     {
         if let Command::Finish = &command {
@@ -131,11 +128,11 @@ impl<E: Editor> Edit<E> {
 
     // Does what a command says that isn't the end.
     fn perform(&mut self, command: Command) -> Result<(), CommandFault>
-        ensures moved { OnOk result (Performs E.dir_path E.file_path E.shows self.old self.new command) }
+        ensures moved { Does E.Editor self.old self.new command result }
         ensures refused { IfErr result
             (λ f. is_finish command ≡ false → RefusedAs E.dir_path E.file_path self.old command f) }
-        ensures own { IfErr result (IfOwn (MetAs E.dir_path E.file_path E.shows E.began E.refuses self.old command)) }
-        ensures still { IfErr result (LeavesOpen E.dir_path E.file_path self.old self.new command) }
+        ensures own { MayMeet E.Editor self.old command result }
+        ensures still { KeepsOpen E.Editor self.old self.new command result }
         ensures began { E.began self.new.editor ≡ E.began self.old.editor }
     {
         match command {
@@ -160,10 +157,10 @@ impl<E: Editor> Edit<E> {
     }
 
     fn target(&mut self, rev: RevNo) -> Result<(), CommandFault>
-        ensures moved { OnOk result (Performs E.dir_path E.file_path E.shows self.old self.new (command.Target rev)) }
-        ensures refused { IfErr result (RefusedAs E.dir_path E.file_path self.old (command.Target rev)) }
-        ensures own { IfErr result (IfOwn (MetAs E.dir_path E.file_path E.shows E.began E.refuses self.old (command.Target rev))) }
-        ensures still { IfErr result (LeavesOpen E.dir_path E.file_path self.old self.new (command.Target rev)) }
+        ensures moved { Does E.Editor self.old self.new (command.Target rev) result }
+        ensures refused { RefusesDue E.Editor self.old (command.Target rev) result }
+        ensures own { MayMeet E.Editor self.old (command.Target rev) result }
+        ensures still { KeepsOpen E.Editor self.old self.new (command.Target rev) result }
         ensures began { E.began self.new.editor ≡ E.began self.old.editor }
     {
         let Stage::Begun = self.stage else {
@@ -195,10 +192,10 @@ impl<E: Editor> Edit<E> {
     }
 
     fn open_root(&mut self, base: Option<RevNo>, token: Vec<u8>) -> Result<(), CommandFault>
-        ensures moved { OnOk result (Performs E.dir_path E.file_path E.shows self.old self.new (command.OpenRoot base token)) }
-        ensures refused { IfErr result (RefusedAs E.dir_path E.file_path self.old (command.OpenRoot base token)) }
-        ensures own { IfErr result (IfOwn (MetAs E.dir_path E.file_path E.shows E.began E.refuses self.old (command.OpenRoot base token))) }
-        ensures still { IfErr result (LeavesOpen E.dir_path E.file_path self.old self.new (command.OpenRoot base token)) }
+        ensures moved { Does E.Editor self.old self.new (command.OpenRoot base token) result }
+        ensures refused { RefusesDue E.Editor self.old (command.OpenRoot base token) result }
+        ensures own { MayMeet E.Editor self.old (command.OpenRoot base token) result }
+        ensures still { KeepsOpen E.Editor self.old self.new (command.OpenRoot base token) result }
         ensures began { E.began self.new.editor ≡ E.began self.old.editor }
     {
         if !self.is_unopened() {
@@ -213,11 +210,9 @@ impl<E: Editor> Edit<E> {
 
     // Takes the innermost open thing, which is a directory with this token.
     fn take_innermost(&mut self, token: &[u8]) -> Result<OpenDir<E::Dir>, CommandFault>
-        ensures taken { IfOk result (λ d. (self.old.dirs.items ≡ self.new.dirs.items ++ d ∷ [])
-            × (d.token.items ≡ token.now) × (self.old.file ≡ None)) }
-        ensures refused { IfErr result (λ f. (at : At)
-            → StandsAt E.dir_path E.file_path self.old at
-            → RefusedFor f (unless (is_in_dir token.now (open_of at)) fault.BadToken)) }
+        ensures taken { TakesInnermost self.old self.new token.now result }
+        ensures refused { RefusesAt E.Editor self.old
+            (λ at. unless (is_in_dir token.now (open_of at)) fault.BadToken) result }
         ensures own { IfErr result (IfOwn (λ f. ⊥)) }
         ensures kept { OnErr result (self.new.dirs.items ≡ self.old.dirs.items) }
         ensures room { OnOk result ((vec_len self.new.dirs + 1 ≡ vec_len self.old.dirs)
@@ -257,12 +252,9 @@ impl<E: Editor> Edit<E> {
     // Room for one more, by a token that isn't in use, in the innermost open thing, which is a directory with this
     // token.
     fn take_parent(&mut self, up: &[u8], token: &[u8]) -> Result<OpenDir<E::Dir>, CommandFault>
-        ensures taken { IfOk result (λ d. (self.old.dirs.items ≡ self.new.dirs.items ++ d ∷ [])
-            × (d.token.items ≡ up.now) × (self.old.file ≡ None)) }
-        ensures refused { IfErr result (λ f. (at : At)
-            → StandsAt E.dir_path E.file_path self.old at
-            → RefusedFor f (unless (is_free token.now (open_of at)
-            && is_in_dir up.now (open_of at)) fault.BadToken)) }
+        ensures taken { TakesInnermost self.old self.new up.now result }
+        ensures refused { RefusesAt E.Editor self.old
+            (λ at. unless (is_free token.now (open_of at) && is_in_dir up.now (open_of at)) fault.BadToken) result }
         ensures own { IfErr result (IfOwn (λ f. ⊥)) }
         ensures kept { OnErr result (self.new.dirs.items ≡ self.old.dirs.items) }
         ensures free { OnOk result (is_free token.now (dirs_named E.dir_path self.old.dirs.items) ≡ true) }
@@ -284,10 +276,10 @@ impl<E: Editor> Edit<E> {
         base: Option<RevNo>,
         up: Vec<u8>,
     ) -> Result<(), CommandFault>
-        ensures moved { OnOk result (Performs E.dir_path E.file_path E.shows self.old self.new (command.DeleteEntry path base up)) }
-        ensures refused { IfErr result (RefusedAs E.dir_path E.file_path self.old (command.DeleteEntry path base up)) }
-        ensures own { IfErr result (IfOwn (MetAs E.dir_path E.file_path E.shows E.began E.refuses self.old (command.DeleteEntry path base up))) }
-        ensures still { IfErr result (LeavesOpen E.dir_path E.file_path self.old self.new (command.DeleteEntry path base up)) }
+        ensures moved { Does E.Editor self.old self.new (command.DeleteEntry path base up) result }
+        ensures refused { RefusesDue E.Editor self.old (command.DeleteEntry path base up) result }
+        ensures own { MayMeet E.Editor self.old (command.DeleteEntry path base up) result }
+        ensures still { KeepsOpen E.Editor self.old self.new (command.DeleteEntry path base up) result }
         ensures began { E.began self.new.editor ≡ E.began self.old.editor }
     {
         let mut dir = self.take_innermost(up.as_slice())?;
@@ -304,10 +296,10 @@ impl<E: Editor> Edit<E> {
         token: Vec<u8>,
         from: Option<Source>,
     ) -> Result<(), CommandFault>
-        ensures moved { OnOk result (Performs E.dir_path E.file_path E.shows self.old self.new (command.AddDir path up token from)) }
-        ensures refused { IfErr result (RefusedAs E.dir_path E.file_path self.old (command.AddDir path up token from)) }
-        ensures own { IfErr result (IfOwn (MetAs E.dir_path E.file_path E.shows E.began E.refuses self.old (command.AddDir path up token from))) }
-        ensures still { IfErr result (LeavesOpen E.dir_path E.file_path self.old self.new (command.AddDir path up token from)) }
+        ensures moved { Does E.Editor self.old self.new (command.AddDir path up token from) result }
+        ensures refused { RefusesDue E.Editor self.old (command.AddDir path up token from) result }
+        ensures own { MayMeet E.Editor self.old (command.AddDir path up token from) result }
+        ensures still { KeepsOpen E.Editor self.old self.new (command.AddDir path up token from) result }
         ensures began { E.began self.new.editor ≡ E.began self.old.editor }
     {
         let mut dir = self.take_parent(up.as_slice(), token.as_slice())?;
@@ -325,10 +317,10 @@ impl<E: Editor> Edit<E> {
         token: Vec<u8>,
         base: Option<RevNo>,
     ) -> Result<(), CommandFault>
-        ensures moved { OnOk result (Performs E.dir_path E.file_path E.shows self.old self.new (command.OpenDir path up token base)) }
-        ensures refused { IfErr result (RefusedAs E.dir_path E.file_path self.old (command.OpenDir path up token base)) }
-        ensures own { IfErr result (IfOwn (MetAs E.dir_path E.file_path E.shows E.began E.refuses self.old (command.OpenDir path up token base))) }
-        ensures still { IfErr result (LeavesOpen E.dir_path E.file_path self.old self.new (command.OpenDir path up token base)) }
+        ensures moved { Does E.Editor self.old self.new (command.OpenDir path up token base) result }
+        ensures refused { RefusesDue E.Editor self.old (command.OpenDir path up token base) result }
+        ensures own { MayMeet E.Editor self.old (command.OpenDir path up token base) result }
+        ensures still { KeepsOpen E.Editor self.old self.new (command.OpenDir path up token base) result }
         ensures began { E.began self.new.editor ≡ E.began self.old.editor }
     {
         let mut dir = self.take_parent(up.as_slice(), token.as_slice())?;
@@ -361,10 +353,10 @@ impl<E: Editor> Edit<E> {
         name: PropName,
         value: Option<Vec<u8>>,
     ) -> Result<(), CommandFault>
-        ensures moved { OnOk result (Performs E.dir_path E.file_path E.shows self.old self.new (command.DirProp token name value)) }
-        ensures refused { IfErr result (RefusedAs E.dir_path E.file_path self.old (command.DirProp token name value)) }
-        ensures own { IfErr result (IfOwn (MetAs E.dir_path E.file_path E.shows E.began E.refuses self.old (command.DirProp token name value))) }
-        ensures still { IfErr result (LeavesOpen E.dir_path E.file_path self.old self.new (command.DirProp token name value)) }
+        ensures moved { Does E.Editor self.old self.new (command.DirProp token name value) result }
+        ensures refused { RefusesDue E.Editor self.old (command.DirProp token name value) result }
+        ensures own { MayMeet E.Editor self.old (command.DirProp token name value) result }
+        ensures still { KeepsOpen E.Editor self.old self.new (command.DirProp token name value) result }
         ensures began { E.began self.new.editor ≡ E.began self.old.editor }
     {
         let at = self.find(token.as_slice())?;
@@ -375,10 +367,10 @@ impl<E: Editor> Edit<E> {
     }
 
     fn close_dir(&mut self, token: Vec<u8>) -> Result<(), CommandFault>
-        ensures moved { OnOk result (Performs E.dir_path E.file_path E.shows self.old self.new (command.CloseDir token)) }
-        ensures refused { IfErr result (RefusedAs E.dir_path E.file_path self.old (command.CloseDir token)) }
-        ensures own { IfErr result (IfOwn (MetAs E.dir_path E.file_path E.shows E.began E.refuses self.old (command.CloseDir token))) }
-        ensures still { IfErr result (LeavesOpen E.dir_path E.file_path self.old self.new (command.CloseDir token)) }
+        ensures moved { Does E.Editor self.old self.new (command.CloseDir token) result }
+        ensures refused { RefusesDue E.Editor self.old (command.CloseDir token) result }
+        ensures own { MayMeet E.Editor self.old (command.CloseDir token) result }
+        ensures still { KeepsOpen E.Editor self.old self.new (command.CloseDir token) result }
         ensures began { E.began self.new.editor ≡ E.began self.old.editor }
     {
         let OpenDir { token: _, baton } = self.take_innermost(token.as_slice())?;
@@ -393,10 +385,10 @@ impl<E: Editor> Edit<E> {
         token: Vec<u8>,
         from: Option<Source>,
     ) -> Result<(), CommandFault>
-        ensures moved { OnOk result (Performs E.dir_path E.file_path E.shows self.old self.new (command.AddFile path up token from)) }
-        ensures refused { IfErr result (RefusedAs E.dir_path E.file_path self.old (command.AddFile path up token from)) }
-        ensures own { IfErr result (IfOwn (MetAs E.dir_path E.file_path E.shows E.began E.refuses self.old (command.AddFile path up token from))) }
-        ensures still { IfErr result (LeavesOpen E.dir_path E.file_path self.old self.new (command.AddFile path up token from)) }
+        ensures moved { Does E.Editor self.old self.new (command.AddFile path up token from) result }
+        ensures refused { RefusesDue E.Editor self.old (command.AddFile path up token from) result }
+        ensures own { MayMeet E.Editor self.old (command.AddFile path up token from) result }
+        ensures still { KeepsOpen E.Editor self.old self.new (command.AddFile path up token from) result }
         ensures began { E.began self.new.editor ≡ E.began self.old.editor }
     {
         let mut dir = self.take_parent(up.as_slice(), token.as_slice())?;
@@ -414,10 +406,10 @@ impl<E: Editor> Edit<E> {
         token: Vec<u8>,
         base: Option<RevNo>,
     ) -> Result<(), CommandFault>
-        ensures moved { OnOk result (Performs E.dir_path E.file_path E.shows self.old self.new (command.OpenFile path up token base)) }
-        ensures refused { IfErr result (RefusedAs E.dir_path E.file_path self.old (command.OpenFile path up token base)) }
-        ensures own { IfErr result (IfOwn (MetAs E.dir_path E.file_path E.shows E.began E.refuses self.old (command.OpenFile path up token base))) }
-        ensures still { IfErr result (LeavesOpen E.dir_path E.file_path self.old self.new (command.OpenFile path up token base)) }
+        ensures moved { Does E.Editor self.old self.new (command.OpenFile path up token base) result }
+        ensures refused { RefusesDue E.Editor self.old (command.OpenFile path up token base) result }
+        ensures own { MayMeet E.Editor self.old (command.OpenFile path up token base) result }
+        ensures still { KeepsOpen E.Editor self.old self.new (command.OpenFile path up token base) result }
         ensures began { E.began self.new.editor ≡ E.began self.old.editor }
     {
         let mut dir = self.take_parent(up.as_slice(), token.as_slice())?;
@@ -453,10 +445,10 @@ impl<E: Editor> Edit<E> {
         name: PropName,
         value: Option<Vec<u8>>,
     ) -> Result<(), CommandFault>
-        ensures moved { OnOk result (Performs E.dir_path E.file_path E.shows self.old self.new (command.FileProp token name value)) }
-        ensures refused { IfErr result (RefusedAs E.dir_path E.file_path self.old (command.FileProp token name value)) }
-        ensures own { IfErr result (IfOwn (MetAs E.dir_path E.file_path E.shows E.began E.refuses self.old (command.FileProp token name value))) }
-        ensures still { IfErr result (LeavesOpen E.dir_path E.file_path self.old self.new (command.FileProp token name value)) }
+        ensures moved { Does E.Editor self.old self.new (command.FileProp token name value) result }
+        ensures refused { RefusesDue E.Editor self.old (command.FileProp token name value) result }
+        ensures own { MayMeet E.Editor self.old (command.FileProp token name value) result }
+        ensures still { KeepsOpen E.Editor self.old self.new (command.FileProp token name value) result }
         ensures began { E.began self.new.editor ≡ E.began self.old.editor }
     {
         let Some(file) = &mut self.file else {
@@ -468,10 +460,10 @@ impl<E: Editor> Edit<E> {
 
     /// Begins the text of the open file, which has this token and none yet.
     pub fn text_start(&mut self, token: Vec<u8>) -> Result<(), CommandFault>
-        ensures moved { OnOk result (Performs E.dir_path E.file_path E.shows self.old self.new (command.TextStart token)) }
-        ensures refused { IfErr result (RefusedAs E.dir_path E.file_path self.old (command.TextStart token)) }
-        ensures own { IfErr result (IfOwn (MetAs E.dir_path E.file_path E.shows E.began E.refuses self.old (command.TextStart token))) }
-        ensures still { IfErr result (LeavesOpen E.dir_path E.file_path self.old self.new (command.TextStart token)) }
+        ensures moved { Does E.Editor self.old self.new (command.TextStart token) result }
+        ensures refused { RefusesDue E.Editor self.old (command.TextStart token) result }
+        ensures own { MayMeet E.Editor self.old (command.TextStart token) result }
+        ensures still { KeepsOpen E.Editor self.old self.new (command.TextStart token) result }
         ensures began { E.began self.new.editor ≡ E.began self.old.editor }
     {
         let Some(file) = &mut self.file else {
@@ -483,10 +475,10 @@ impl<E: Editor> Edit<E> {
 
     /// Takes bytes of the text of the open file, which has this token.
     pub fn chunk(&mut self, token: Vec<u8>, bytes: Vec<u8>) -> Result<(), CommandFault>
-        ensures moved { OnOk result (Performs E.dir_path E.file_path E.shows self.old self.new (command.Chunk token bytes)) }
-        ensures refused { IfErr result (RefusedAs E.dir_path E.file_path self.old (command.Chunk token bytes)) }
-        ensures own { IfErr result (IfOwn (MetAs E.dir_path E.file_path E.shows E.began E.refuses self.old (command.Chunk token bytes))) }
-        ensures still { IfErr result (LeavesOpen E.dir_path E.file_path self.old self.new (command.Chunk token bytes)) }
+        ensures moved { Does E.Editor self.old self.new (command.Chunk token bytes) result }
+        ensures refused { RefusesDue E.Editor self.old (command.Chunk token bytes) result }
+        ensures own { MayMeet E.Editor self.old (command.Chunk token bytes) result }
+        ensures still { KeepsOpen E.Editor self.old self.new (command.Chunk token bytes) result }
         ensures began { E.began self.new.editor ≡ E.began self.old.editor }
     {
         let Some(file) = &mut self.file else {
@@ -498,10 +490,10 @@ impl<E: Editor> Edit<E> {
 
     /// Ends the text of the open file, which has this token.
     pub fn text_end(&mut self, token: Vec<u8>) -> Result<(), CommandFault>
-        ensures moved { OnOk result (Performs E.dir_path E.file_path E.shows self.old self.new (command.TextEnd token)) }
-        ensures refused { IfErr result (RefusedAs E.dir_path E.file_path self.old (command.TextEnd token)) }
-        ensures own { IfErr result (IfOwn (MetAs E.dir_path E.file_path E.shows E.began E.refuses self.old (command.TextEnd token))) }
-        ensures still { IfErr result (LeavesOpen E.dir_path E.file_path self.old self.new (command.TextEnd token)) }
+        ensures moved { Does E.Editor self.old self.new (command.TextEnd token) result }
+        ensures refused { RefusesDue E.Editor self.old (command.TextEnd token) result }
+        ensures own { MayMeet E.Editor self.old (command.TextEnd token) result }
+        ensures still { KeepsOpen E.Editor self.old self.new (command.TextEnd token) result }
         ensures began { E.began self.new.editor ≡ E.began self.old.editor }
     {
         let Some(file) = &mut self.file else {
@@ -513,9 +505,10 @@ impl<E: Editor> Edit<E> {
 
     /// Whether the open file, which has this token, is in its text.
     pub fn check_text(&self, token: &[u8]) -> Result<(), CommandFault>
-        ensures in_text { OnOk result ((at : At) → StandsAt E.dir_path E.file_path self.now at → IsInText token.now at) }
-        ensures refused { IfErr result (λ f. (at : At) → StandsAt E.dir_path E.file_path self.now at
-            → RefusedFor f (behind_end at (in_file token.now (open_of at) at_text))) }
+        ensures in_text { OnOk result
+            ((at : At) → StandsAt E.dir_path E.file_path self.now at → IsInText token.now at) }
+        ensures refused { RefusesAt E.Editor self.now
+            (λ at. behind_end at (in_file token.now (open_of at) at_text)) result }
         ensures own { IfErr result (IfOwn (λ f. ⊥)) }
     {
         if self.is_announced() {
@@ -528,10 +521,10 @@ impl<E: Editor> Edit<E> {
     }
 
     fn close_file(&mut self, token: Vec<u8>, sum: Option<[u8; 16]>) -> Result<(), CommandFault>
-        ensures moved { OnOk result (Performs E.dir_path E.file_path E.shows self.old self.new (command.CloseFile token sum)) }
-        ensures refused { IfErr result (RefusedAs E.dir_path E.file_path self.old (command.CloseFile token sum)) }
-        ensures own { IfErr result (IfOwn (MetAs E.dir_path E.file_path E.shows E.began E.refuses self.old (command.CloseFile token sum))) }
-        ensures still { IfErr result (LeavesOpen E.dir_path E.file_path self.old self.new (command.CloseFile token sum)) }
+        ensures moved { Does E.Editor self.old self.new (command.CloseFile token sum) result }
+        ensures refused { RefusesDue E.Editor self.old (command.CloseFile token sum) result }
+        ensures own { MayMeet E.Editor self.old (command.CloseFile token sum) result }
+        ensures still { KeepsOpen E.Editor self.old self.new (command.CloseFile token sum) result }
         ensures began { E.began self.new.editor ≡ E.began self.old.editor }
     {
         let OpenFile {
@@ -551,9 +544,7 @@ impl<E: Editor> Edit<E> {
     ) -> Result<OpenFile<E::File>, CommandFault>
         ensures taken { IfOk result (λ f. (self.old.file ≡ Some f) × (f.token.items ≡ token.now)
             × SumIs f.given sum) }
-        ensures refused { IfErr result (λ f. (at : At)
-            → StandsAt E.dir_path E.file_path self.old at
-            → RefusedFor f (in_file token.now (open_of at) (at_close sum))) }
+        ensures refused { RefusesAt E.Editor self.old (λ at. in_file token.now (open_of at) (at_close sum)) result }
         ensures own { IfErr result (IfOwn (λ f. ⊥)) }
         ensures kept { OnErr result (self.new.file ≡ self.old.file) }
         ensures none { OnOk result (self.new.file ≡ None) }
@@ -583,10 +574,10 @@ impl<E: Editor> Edit<E> {
     }
 
     fn close_edit(&mut self) -> Result<(), CommandFault>
-        ensures moved { OnOk result (Performs E.dir_path E.file_path E.shows self.old self.new command.CloseEdit) }
-        ensures refused { IfErr result (RefusedAs E.dir_path E.file_path self.old command.CloseEdit) }
-        ensures own { IfErr result (IfOwn (MetAs E.dir_path E.file_path E.shows E.began E.refuses self.old command.CloseEdit)) }
-        ensures still { IfErr result (LeavesOpen E.dir_path E.file_path self.old self.new command.CloseEdit) }
+        ensures moved { Does E.Editor self.old self.new command.CloseEdit result }
+        ensures refused { RefusesDue E.Editor self.old command.CloseEdit result }
+        ensures own { MayMeet E.Editor self.old command.CloseEdit result }
+        ensures still { KeepsOpen E.Editor self.old self.new command.CloseEdit result }
         ensures began { E.began self.new.editor ≡ E.began self.old.editor }
     {
         if self.is_announced() {
@@ -615,17 +606,11 @@ impl<E: Editor> Edit<E> {
     /// `close_edit` is called. `BadToken` (46) where something is open; then it is discarded, and the edit is
     /// aborted.
     pub fn finish(self) -> Result<E::Done, CommandFault>
-        ensures done { IfOk result (λ d. (at : At) (item : Item) → IsCommand (word_of word.FinishReplay) [] item
-            → StandsAt E.dir_path E.file_path self at
-            → Finishes E.shows E.done_shows self.editor d item at) }
+        ensures done { EndsEdit E.Editor self result }
         ensures began { IfOk result (λ d. E.done_began d ≡ E.began self.editor) }
-        ensures refused { IfErr result (λ f. (at : At)
-            → StandsAt E.dir_path E.file_path self at
-            → RefusedFor f (refusal at command.Finish)) }
-        ensures own { IfErr result (IfOwn (λ f. (at : At)
-            → StandsAt E.dir_path E.file_path self at
-            → Meets E.shows E.began E.refuses self.editor at command.Finish f)) }
-        ensures gives_up { OnErr result (GivesUp E.lets_go E.given_up (all_open E.dir_path E.file_path self)) }
+        ensures refused { RefusesAt E.Editor self (λ at. refusal at command.Finish) result }
+        ensures own { MayMeet E.Editor self command.Finish result }
+        ensures gives_up { OnErr result (IsGivenUp E.Editor self) }
     {
         if !self.is_closed() {
             self.abort();
@@ -665,7 +650,7 @@ impl<E: Editor> Edit<E> {
 
     /// Discards what is open, and aborts the edit.
     pub fn abort(self)
-        ensures { GivesUp E.lets_go E.given_up (all_open E.dir_path E.file_path self) }
+        ensures { IsGivenUp E.Editor self }
     {
         self.into_editor().abort_edit();
     }
@@ -758,8 +743,7 @@ fn show_root<E: Editor>(editor: &mut E) -> Result<(), EditorFault>
 // Whether the open file, which has this token, is in its text.
 fn check_given<F>(file: &OpenFile<F>, token: &[u8]) -> Result<(), CommandFault>
     ensures in_text { OnOk result (IsGivenText file.now.given × (file.now.token.items ≡ token.now)) }
-    ensures refused { IfErr result (λ f. (held : Held) → GivenIs file.now.given held
-        → RefusedFor f (for_token token.now file.now.token.items (at_text held))) }
+    ensures refused { RefusesInFile file.now token.now at_text result }
     ensures own { IfErr result (IfOwn (λ f. ⊥)) }
 {
     if !is_same(file.token.as_slice(), token) {
@@ -779,12 +763,11 @@ fn give_prop<E: Editor>(
     name: PropName,
     value: Option<Vec<u8>>,
 ) -> Result<(), CommandFault>
-    ensures moved { OnOk result ((item : Item) → Forms (command.FileProp token name value) item
-        → FileMoves E.file_path E.shows editor.old editor.new item file.old file.new) }
+    ensures moved { DoesInFile E.Editor editor.old editor.new file.old file.new
+        (command.FileProp token name value) result }
     ensures refused { IfErr result (λ f. RefusedFor f (for_token token.items file.old.token.items None)) }
-    ensures own { IfErr result
-        (IfOwn (RefusesOne E.shows E.began E.refuses editor.old
-        (call.FileProp (E.file_path file.old.baton) name (option_map (λ s. s.items) value) ∷ []))) }
+    ensures own { MeetsOne E.Editor editor.old
+        (call.FileProp (E.file_path file.old.baton) name (option_map (λ s. s.items) value) ∷ []) result }
     ensures path { E.file_path file.new.baton ≡ E.file_path file.old.baton }
     ensures began { E.began editor.new ≡ E.began editor.old }
 {
@@ -801,12 +784,9 @@ fn begin_text<E: Editor>(
     file: &mut OpenFile<E::File>,
     token: Vec<u8>,
 ) -> Result<(), CommandFault>
-    ensures moved { OnOk result ((item : Item) → Forms (command.TextStart token) item
-        → FileMoves E.file_path E.shows editor.old editor.new item file.old file.new) }
-    ensures refused { IfErr result (λ f. (held : Held) → GivenIs file.old.given held
-        → RefusedFor f (for_token token.items file.old.token.items (at_start held))) }
-    ensures own { IfErr result
-        (IfOwn (RefusesOne E.shows E.began E.refuses editor.old (call.TextStart (E.file_path file.old.baton) ∷ []))) }
+    ensures moved { DoesInFile E.Editor editor.old editor.new file.old file.new (command.TextStart token) result }
+    ensures refused { RefusesInFile file.old token.items at_start result }
+    ensures own { MeetsOne E.Editor editor.old (call.TextStart (E.file_path file.old.baton) ∷ []) result }
     ensures path { E.file_path file.new.baton ≡ E.file_path file.old.baton }
     ensures began { E.began editor.new ≡ E.began editor.old }
 {
@@ -828,14 +808,9 @@ fn give_bytes<E: Editor>(
     token: Vec<u8>,
     bytes: Vec<u8>,
 ) -> Result<(), CommandFault>
-    ensures moved { OnOk result ((item : Item) → Forms (command.Chunk token bytes) item
-        → FileMoves E.file_path E.shows editor.old editor.new item file.old file.new) }
-    ensures refused { IfErr result (λ f. (held : Held) → GivenIs file.old.given held
-        → RefusedFor f (for_token token.items file.old.token.items (at_chunk bytes.items held))) }
-    ensures own { IfErr result (IfOwn (λ f. (held : Held) → GivenIs file.old.given held
-        → (pieces : List (List ℕ)) × ReadFirst held bytes.items pieces
-        × RefusesOne E.shows E.began E.refuses editor.old
-        (map (call.TextPiece (E.file_path file.old.baton)) pieces) f)) }
+    ensures moved { DoesInFile E.Editor editor.old editor.new file.old file.new (command.Chunk token bytes) result }
+    ensures refused { RefusesInFile file.old token.items (at_chunk bytes.items) result }
+    ensures own { MeetsPiece E.Editor editor.old file.old bytes.items result }
     ensures path { E.file_path file.new.baton ≡ E.file_path file.old.baton }
     ensures began { E.began editor.new ≡ E.began editor.old }
 {
@@ -855,12 +830,9 @@ fn close_text<E: Editor>(
     file: &mut OpenFile<E::File>,
     token: Vec<u8>,
 ) -> Result<(), CommandFault>
-    ensures moved { OnOk result ((item : Item) → Forms (command.TextEnd token) item
-        → FileMoves E.file_path E.shows editor.old editor.new item file.old file.new) }
-    ensures refused { IfErr result (λ f. (held : Held) → GivenIs file.old.given held
-        → RefusedFor f (for_token token.items file.old.token.items (at_end held))) }
-    ensures own { IfErr result
-        (IfOwn (RefusesOne E.shows E.began E.refuses editor.old (call.TextEnd (E.file_path file.old.baton) ∷ []))) }
+    ensures moved { DoesInFile E.Editor editor.old editor.new file.old file.new (command.TextEnd token) result }
+    ensures refused { RefusesInFile file.old token.items at_end result }
+    ensures own { MeetsOne E.Editor editor.old (call.TextEnd (E.file_path file.old.baton) ∷ []) result }
     ensures path { E.file_path file.new.baton ≡ E.file_path file.old.baton }
     ensures began { E.began editor.new ≡ E.began editor.old }
 {
@@ -876,7 +848,7 @@ fn close_text<E: Editor>(
 // The MD5 of a text that ends between windows.
 fn end_text(given: &mut Given) -> Result<[u8; 16], CommandFault>
     ensures ends { IfOk result (λ sum. TextEnds given.old sum) }
-    ensures refused { IfErr result (λ f. (held : Held) → GivenIs given.old held → RefusedFor f (at_end held)) }
+    ensures refused { RefusesGiven given.old at_end result }
     ensures own { IfErr result (IfOwn (λ f. ⊥)) }
 {
     match mem::replace(given, Given::Nothing) {
@@ -891,8 +863,7 @@ fn end_text(given: &mut Given) -> Result<[u8; 16], CommandFault>
 // The sum that came is that of the text, where both are there.
 fn check_sum(given: &Given, sum: Option<[u8; 16]>) -> Result<(), CommandFault>
     ensures is { OnOk result (SumIs given.now sum) }
-    ensures refused { IfErr result (λ f. (held : Held) → GivenIs given.now held
-        → RefusedFor f (at_close sum held)) }
+    ensures refused { RefusesGiven given.now (at_close sum) result }
     ensures own { IfErr result (IfOwn (λ f. ⊥)) }
 {
     match given {

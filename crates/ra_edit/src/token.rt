@@ -1,8 +1,8 @@
 //! Tokens of what is opened.
 
-ghost use Rattle.std.specs.Prelude.{◌≡◌, ◌≤◌, ◌+◌, ◌==◌, ℕ, length, slice_index, MatchOption};
+ghost use Rattle.std.specs.Prelude.{◌≡◌, ◌≤◌, length, slice_index};
 ghost use Rattle.std.specs.Prelude.{if◌then◌else◌};
-ghost use Rattle.ra_edit.specs.Tokens.{newest};
+ghost use Rattle.ra_edit.specs.Tokens.{newest, GivesNext};
 
 use node_base::NodePath;
 use std::snapshot::Snapshot;
@@ -60,10 +60,7 @@ impl Tokens {
 
     /// Gives out the next number, for what is opened at a place. Nothing where there is none left.
     pub fn give(&mut self, place: &Place) -> Option<u64>
-        ensures { MatchOption result ((self.new ≡ self.old)
-            × (18446744073709551615 ≤ self.old.next)) (λ n. (n ≡ self.old.next) × (self.new.next ≡ n + 1)
-            × ((d : ℕ) → newest self.new d
-            ≡ (if d == length place.now.path.value then n else newest self.old d))) }
+        ensures { GivesNext self.old self.new (length place.now.path.value) result }
     {
         let number = self.next;
         self.next = number.checked_add(1)?;
