@@ -10,3 +10,4 @@ pub mod ReadAgain
 pub mod Reading
 pub mod Replies
 pub mod Requests
+pub mod Writing

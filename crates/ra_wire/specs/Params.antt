@@ -1,5 +1,5 @@
 -- What stands in front in a list of items, and the items behind it.
-use Rattle.std.specs.Prelude.{◌≡◌, ℕ, ◌==◌, Bool, true, false, List, [], ◌∷◌, reverse, Option, Some, None, Result, Ok, Err, codes, if◌then◌else◌}
+use Rattle.std.specs.Prelude.{◌≡◌, ℕ, ◌==◌, Bool, true, false, List, [], ◌∷◌, reverse, Option, Some, None, Result, Ok, Err, IfOk, IfErr, codes, if◌then◌else◌}
 use Rattle.std.specs.Option.{option_map, option_and_then}
 use Rattle.std.specs.Str.{bytes_eq}
 use Rattle.ra_item.specs.Items.{Item, Items, End, Then, Word, Number, Text, Nested, row}
@@ -94,3 +94,21 @@ abbrev pub NotRead : {T : Type 0} → Option T → WireFault → Type 0
 NotRead read fault.OutOfMemory = Unit {0}
 NotRead read fault.BadShape = read ≡ None
 NotRead read f = ⊥
+
+-- ---- what reading answers
+
+-- this was read, as it is in code
+abbrev pub Reads : {S T E : Type 0} → Option S → (T → S) → Result T E → Type 0
+Reads read as_read result = IfOk result (λ x. read ≡ Some (as_read x))
+
+-- it was read in front of the items that weren't taken yet
+abbrev pub ReadsNext : {S T E : Type 0} → (Items → Read S) → (T → S) → Params → Params → Result T E → Type 0
+ReadsNext from as_read old new result = IfOk result (λ x. from (left_of old) ≡ Some (as_read x, left_of new))
+
+-- the same of items that are read no further
+abbrev pub ReadsFirst : {S T E : Type 0} → (Items → Read S) → (T → S) → Params → Result T E → Type 0
+ReadsFirst from as_read params result = IfOk result (λ x. option_map (λ r. r.0) (from (left_of params)) ≡ Some (as_read x))
+
+-- a refusal comes only where this isn't read
+abbrev pub Misses : {S T : Type 0} → Option S → Result T WireFault → Type 0
+Misses read result = IfErr result (NotRead read)

@@ -1,8 +1,8 @@
 //! What stands in an answer: a number, a kind, a value.
 
-ghost use Rattle.std.specs.Prelude.{◌≡◌, IfOk, IfErr, Some, None};
+ghost use Rattle.std.specs.Prelude.{None};
 ghost use Rattle.std.specs.Option.{option_map};
-ghost use Rattle.ra_wire.specs.Params.{left_of, number_in, text_in, bracketed, NotRead};
+ghost use Rattle.ra_wire.specs.Params.{left_of, number_in, text_in, bracketed, ReadsNext, ReadsFirst, Misses};
 ghost use Rattle.ra_wire.specs.Prototypes.{IsNumber, IsKind, IsValue, Judges};
 ghost use Rattle.ra_wire.specs.Answers.{kind_in, kind_said, node_kind_in};
 
@@ -12,8 +12,8 @@ use node_base::NodeKind;
 
 /// The number that an answer to `get-latest-rev` holds. `BadShape` (48) for another form.
 pub fn latest(content: Params) -> Result<u64, WireFault>
-    ensures read { IfOk result (λ n. option_map (λ r. r.0) (number_in (left_of content)) ≡ Some n) }
-    ensures none { IfErr result (NotRead (number_in (left_of content))) }
+    ensures read { ReadsFirst number_in (λ n. n) content result }
+    ensures none { Misses (number_in (left_of content)) result }
     ensures judged { Judges IsNumber (λ n. n) (left_of content) result }
 {
     let mut content = content;
@@ -22,8 +22,8 @@ pub fn latest(content: Params) -> Result<u64, WireFault>
 
 /// What an answer to `check-path` says of the path: nothing, a file or a directory. `BadShape` (48) for another form.
 pub fn kind(content: Params) -> Result<Option<NodeKind>, WireFault>
-    ensures read { IfOk result (λ k. option_map (λ r. r.0) (kind_in (left_of content)) ≡ Some k) }
-    ensures none { IfErr result (NotRead (kind_in (left_of content))) }
+    ensures read { ReadsFirst kind_in (λ k. k) content result }
+    ensures none { Misses (kind_in (left_of content)) result }
     ensures judged { Judges IsKind (λ k. k) (left_of content) result }
 {
     let mut content = content;
@@ -32,9 +32,8 @@ pub fn kind(content: Params) -> Result<Option<NodeKind>, WireFault>
 
 /// The value that an answer to `rev-prop` holds, or none. `BadShape` (48) for another form.
 pub fn value(content: Params) -> Result<Option<Vec<u8>>, WireFault>
-    ensures read { IfOk result (λ v. option_map (λ r. r.0) (bracketed text_in (left_of content))
-        ≡ Some (option_map (λ t. t.items) v)) }
-    ensures none { IfErr result (NotRead (bracketed text_in (left_of content))) }
+    ensures read { ReadsFirst (bracketed text_in) (option_map (λ t. t.items)) content result }
+    ensures none { Misses (bracketed text_in (left_of content)) result }
     ensures judged { Judges IsValue (option_map (λ t. t.items)) (left_of content) result }
 {
     let mut content = content;
@@ -43,8 +42,8 @@ pub fn value(content: Params) -> Result<Option<Vec<u8>>, WireFault>
 
 /// The next item, which is one of the words none, file and dir. `BadShape` (48) where it isn't.
 pub fn next_kind(params: &mut Params) -> Result<Option<NodeKind>, WireFault>
-    ensures read { IfOk result (λ k. kind_in (left_of params.old) ≡ Some (k, left_of params.new)) }
-    ensures none { IfErr result (NotRead (kind_in (left_of params.old))) }
+    ensures read { ReadsNext kind_in (λ k. k) params.old params.new result }
+    ensures none { Misses (kind_in (left_of params.old)) result }
 {
     let word = params.word()?;
     if word.as_slice() == b"none".as_slice() {
@@ -60,8 +59,8 @@ pub fn next_kind(params: &mut Params) -> Result<Option<NodeKind>, WireFault>
 
 /// The next item, which is one of the words file and dir. `BadShape` (48) where it isn't.
 pub fn next_node_kind(params: &mut Params) -> Result<NodeKind, WireFault>
-    ensures read { IfOk result (λ k. node_kind_in (left_of params.old) ≡ Some (k, left_of params.new)) }
-    ensures none { IfErr result (NotRead (node_kind_in (left_of params.old))) }
+    ensures read { ReadsNext node_kind_in (λ k. k) params.old params.new result }
+    ensures none { Misses (node_kind_in (left_of params.old)) result }
 {
     match next_kind(params)? {
         Some(kind) => Ok(kind),

@@ -1,9 +1,9 @@
 //! What a client is told of a file or a directory.
 
-ghost use Rattle.std.specs.Prelude.{◌≡◌, map, IfOk, IfErr, Some, None};
+ghost use Rattle.std.specs.Prelude.{map, None};
 ghost use Rattle.std.specs.Option.{option_map};
 ghost use Rattle.ra_item.specs.Items.{row};
-ghost use Rattle.ra_wire.specs.Params.{left_of, each, NotRead};
+ghost use Rattle.ra_wire.specs.Params.{left_of, each, Reads, Misses};
 ghost use Rattle.ra_wire.specs.Prototypes.{IsFile, IsDir, Judges};
 ghost use Rattle.ra_wire.specs.Answers.{dirent_in, dirent_as, file_in, file_as, dir_in, dir_as};
 
@@ -34,8 +34,8 @@ pub struct DirFound {
 
 // Items that are all entries.
 fn all_entries(alloc: Global, items: Vec<Item>) -> Result<Vec<Dirent>, WireFault>
-    ensures read { IfOk result (λ es. each dirent_in (row items.items) ≡ Some (map dirent_as es.items)) }
-    ensures none { IfErr result (NotRead (each dirent_in (row items.items))) }
+    ensures read { Reads (each dirent_in (row items.items)) (λ es. map dirent_as es.items) result }
+    ensures none { Misses (each dirent_in (row items.items)) result }
 {
     let mut entries = Vec::new(alloc);
     for item in items {
@@ -48,8 +48,8 @@ impl FileFound {
     /// What an answer says of a file. `BadShape` (48) for another form, and properties past the limits;
     /// `OutOfMemory` (70).
     pub fn parse(alloc: Global, content: Params) -> Result<FileFound, WireFault>
-        ensures read { IfOk result (λ f. file_in (left_of content) ≡ Some (file_as f)) }
-        ensures none { IfErr result (NotRead (file_in (left_of content))) }
+        ensures read { Reads (file_in (left_of content)) file_as result }
+        ensures none { Misses (file_in (left_of content)) result }
         ensures judged { Judges IsFile file_as (left_of content) result }
     {
         FileFound::read(alloc, content)
@@ -57,8 +57,8 @@ impl FileFound {
 
     // The same, by what is read alone.
     fn read(alloc: Global, content: Params) -> Result<FileFound, WireFault>
-        ensures read { IfOk result (λ f. file_in (left_of content) ≡ Some (file_as f)) }
-        ensures none { IfErr result (NotRead (file_in (left_of content))) }
+        ensures read { Reads (file_in (left_of content)) file_as result }
+        ensures none { Misses (file_in (left_of content)) result }
     {
         let mut content = content;
         let sum = content.maybe_text()?;
@@ -76,8 +76,8 @@ impl DirFound {
     /// What an answer says of a directory. `BadShape` (48) for another form, and properties past the limits;
     /// `OutOfMemory` (70).
     pub fn parse(alloc: Global, content: Params) -> Result<DirFound, WireFault>
-        ensures read { IfOk result (λ d. dir_in (left_of content) ≡ Some (dir_as d)) }
-        ensures none { IfErr result (NotRead (dir_in (left_of content))) }
+        ensures read { Reads (dir_in (left_of content)) dir_as result }
+        ensures none { Misses (dir_in (left_of content)) result }
         ensures judged { Judges IsDir dir_as (left_of content) result }
     {
         DirFound::read(alloc, content)
@@ -85,8 +85,8 @@ impl DirFound {
 
     // The same, by what is read alone.
     fn read(alloc: Global, content: Params) -> Result<DirFound, WireFault>
-        ensures read { IfOk result (λ d. dir_in (left_of content) ≡ Some (dir_as d)) }
-        ensures none { IfErr result (NotRead (dir_in (left_of content))) }
+        ensures read { Reads (dir_in (left_of content)) dir_as result }
+        ensures none { Misses (dir_in (left_of content)) result }
     {
         let mut content = content;
         let revision = content.number()?;

@@ -1,8 +1,8 @@
 //! What a client asks.
 
-ghost use Rattle.std.specs.Prelude.{◌≡◌, IfOk, IfErr, Some, None};
+ghost use Rattle.std.specs.Prelude.{None};
 ghost use Rattle.ra_item.specs.Items.{Nested};
-ghost use Rattle.ra_wire.specs.Params.{left_of, NotRead};
+ghost use Rattle.ra_wire.specs.Params.{left_of, Reads, Misses};
 ghost use Rattle.ra_wire.specs.Commands.{previous_as, command_as, Judged};
 ghost use Rattle.ra_wire.specs.Reading.{command_in, named, check_path_in, get_file_in, get_dir_in, rev_proplist_in};
 ghost use Rattle.ra_wire.specs.Reading.{rev_prop_in, change_rev_prop_in, change_rev_prop2_in, replay_in};
@@ -159,8 +159,8 @@ fn change_rev_prop2(params: &mut Params) -> Result<Command, WireFault>
 
 // What a change of a property replaces.
 fn replaced(params: &mut Params) -> Result<Previous, WireFault>
-    ensures read { IfOk result (λ p. previous_in (left_of params.old) ≡ Some (previous_as p)) }
-    ensures none { IfErr result (NotRead (previous_in (left_of params.old))) }
+    ensures read { Reads (previous_in (left_of params.old)) previous_as result }
+    ensures none { Misses (previous_in (left_of params.old)) result }
 {
     let any = params.boolean()?;
     match params.last_text()? {

@@ -1,8 +1,8 @@
 //! An entry of a directory.
 
-ghost use Rattle.std.specs.Prelude.{◌≡◌, IfOk, IfErr, Some, None};
+ghost use Rattle.std.specs.Prelude.{None};
 ghost use Rattle.std.specs.Option.{option_map};
-ghost use Rattle.ra_wire.specs.Params.{left_of, NotRead};
+ghost use Rattle.ra_wire.specs.Params.{left_of, Reads, ReadsNext, Misses};
 ghost use Rattle.ra_wire.specs.Prototypes.{IsDirent, Judges};
 ghost use Rattle.ra_wire.specs.Answers.{node_name_in, dirent_with, dirent_in, dirent_as};
 
@@ -31,8 +31,8 @@ pub struct Dirent {
 
 // The next item, which is a name of a file or a directory.
 fn next_name(alloc: Global, params: &mut Params) -> Result<NodeName, WireFault>
-    ensures read { IfOk result (λ n. node_name_in (left_of params.old) ≡ Some (n, left_of params.new)) }
-    ensures none { IfErr result (NotRead (node_name_in (left_of params.old))) }
+    ensures read { ReadsNext node_name_in (λ n. n) params.old params.new result }
+    ensures none { Misses (node_name_in (left_of params.old)) result }
 {
     match NodeName::parse(alloc, params.text()?.as_slice()) {
         Ok(name) => Ok(name),
@@ -48,8 +48,8 @@ fn rest_of(
     size: u64,
     params: &mut Params,
 ) -> Result<Dirent, WireFault>
-    ensures read { IfOk result (λ d. dirent_with name kind size (left_of params.old) ≡ Some (dirent_as d)) }
-    ensures none { IfErr result (NotRead (dirent_with name kind size (left_of params.old))) }
+    ensures read { Reads (dirent_with name kind size (left_of params.old)) dirent_as result }
+    ensures none { Misses (dirent_with name kind size (left_of params.old)) result }
 {
     let has_props = params.boolean()?;
     let created = params.number()?;
@@ -70,8 +70,8 @@ impl Dirent {
     /// The entry that an item is. `BadShape` (48) for another form, a kind that is neither file nor dir, or a name that
     /// is none; `OutOfMemory` (70).
     pub fn parse(alloc: Global, item: Item) -> Result<Dirent, WireFault>
-        ensures read { IfOk result (λ d. dirent_in item ≡ Some (dirent_as d)) }
-        ensures none { IfErr result (NotRead (dirent_in item)) }
+        ensures read { Reads (dirent_in item) dirent_as result }
+        ensures none { Misses (dirent_in item) result }
         ensures judged { Judges IsDirent dirent_as item result }
     {
         Dirent::read(alloc, item)
@@ -79,8 +79,8 @@ impl Dirent {
 
     // The same, by what is read alone.
     pub(crate) fn read(alloc: Global, item: Item) -> Result<Dirent, WireFault>
-        ensures read { IfOk result (λ d. dirent_in item ≡ Some (dirent_as d)) }
-        ensures none { IfErr result (NotRead (dirent_in item)) }
+        ensures read { Reads (dirent_in item) dirent_as result }
+        ensures none { Misses (dirent_in item) result }
     {
         let mut parts = Params::of(item)?;
         let name = next_name(alloc, &mut parts)?;

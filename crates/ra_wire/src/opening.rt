@@ -1,8 +1,8 @@
 //! The beginning of a session: the server's greeting, the client's, the ways to say who one is, and the server's
 //! welcome.
 
-ghost use Rattle.std.specs.Prelude.{◌≡◌, IfOk, IfErr, Some, None};
-ghost use Rattle.ra_wire.specs.Params.{left_of, NotRead};
+ghost use Rattle.std.specs.Prelude.{None};
+ghost use Rattle.ra_wire.specs.Params.{left_of, Reads, Misses};
 ghost use Rattle.ra_wire.specs.Prototypes.{IsGreeting, IsHello, AreMechanisms, IsLogin, IsWelcome, Judges};
 ghost use Rattle.ra_wire.specs.Openings.{greeting_in, greeting_as, hello_in, hello_as, mechanisms_in, mechanisms_as};
 ghost use Rattle.ra_wire.specs.Openings.{login_in, login_as, welcome_in, welcome_as};
@@ -59,8 +59,8 @@ pub struct Welcome {
 impl Greeting {
     /// The greeting that an answer holds. `BadShape` (48) for another form, `OutOfMemory` (70).
     pub fn parse(alloc: Global, content: Params) -> Result<Greeting, WireFault>
-        ensures read { IfOk result (λ g. greeting_in (left_of content) ≡ Some (greeting_as g)) }
-        ensures none { IfErr result (NotRead (greeting_in (left_of content))) }
+        ensures read { Reads (greeting_in (left_of content)) greeting_as result }
+        ensures none { Misses (greeting_in (left_of content)) result }
         ensures judged { Judges IsGreeting greeting_as (left_of content) result }
     {
         Greeting::read(alloc, content)
@@ -68,8 +68,8 @@ impl Greeting {
 
     // The same, by what is read alone.
     fn read(alloc: Global, content: Params) -> Result<Greeting, WireFault>
-        ensures read { IfOk result (λ g. greeting_in (left_of content) ≡ Some (greeting_as g)) }
-        ensures none { IfErr result (NotRead (greeting_in (left_of content))) }
+        ensures read { Reads (greeting_in (left_of content)) greeting_as result }
+        ensures none { Misses (greeting_in (left_of content)) result }
     {
         let mut content = content;
         let low = content.number()?;
@@ -89,8 +89,8 @@ impl Hello {
     /// The client's greeting that an item is. `BadShape` (48) for another form or another version than 2,
     /// `OutOfMemory` (70).
     pub fn parse(alloc: Global, item: Item) -> Result<Hello, WireFault>
-        ensures read { IfOk result (λ h. hello_in item ≡ Some (hello_as h)) }
-        ensures none { IfErr result (NotRead (hello_in item)) }
+        ensures read { Reads (hello_in item) hello_as result }
+        ensures none { Misses (hello_in item) result }
         ensures judged { Judges IsHello hello_as item result }
     {
         Hello::read(alloc, item)
@@ -98,8 +98,8 @@ impl Hello {
 
     // The same, by what is read alone.
     fn read(alloc: Global, item: Item) -> Result<Hello, WireFault>
-        ensures read { IfOk result (λ h. hello_in item ≡ Some (hello_as h)) }
-        ensures none { IfErr result (NotRead (hello_in item)) }
+        ensures read { Reads (hello_in item) hello_as result }
+        ensures none { Misses (hello_in item) result }
     {
         let mut parts = Params::of(item)?;
         let version = parts.number()?;
@@ -116,8 +116,8 @@ impl Hello {
 impl Mechanisms {
     /// The mechanisms that an answer holds. `BadShape` (48) for another form, `OutOfMemory` (70).
     pub fn parse(alloc: Global, content: Params) -> Result<Mechanisms, WireFault>
-        ensures read { IfOk result (λ m. mechanisms_in (left_of content) ≡ Some (mechanisms_as m)) }
-        ensures none { IfErr result (NotRead (mechanisms_in (left_of content))) }
+        ensures read { Reads (mechanisms_in (left_of content)) mechanisms_as result }
+        ensures none { Misses (mechanisms_in (left_of content)) result }
         ensures judged { Judges AreMechanisms mechanisms_as (left_of content) result }
     {
         Mechanisms::read(alloc, content)
@@ -125,8 +125,8 @@ impl Mechanisms {
 
     // The same, by what is read alone.
     fn read(alloc: Global, content: Params) -> Result<Mechanisms, WireFault>
-        ensures read { IfOk result (λ m. mechanisms_in (left_of content) ≡ Some (mechanisms_as m)) }
-        ensures none { IfErr result (NotRead (mechanisms_in (left_of content))) }
+        ensures read { Reads (mechanisms_in (left_of content)) mechanisms_as result }
+        ensures none { Misses (mechanisms_in (left_of content)) result }
     {
         let mut content = content;
         let names = content.words(alloc)?;
@@ -138,8 +138,8 @@ impl Mechanisms {
 impl Login {
     /// What an item says of who a client is. `BadShape` (48) for another form.
     pub fn parse(item: Item) -> Result<Login, WireFault>
-        ensures read { IfOk result (λ l. login_in item ≡ Some (login_as l)) }
-        ensures none { IfErr result (NotRead (login_in item)) }
+        ensures read { Reads (login_in item) login_as result }
+        ensures none { Misses (login_in item) result }
         ensures judged { Judges IsLogin login_as item result }
     {
         Login::read(item)
@@ -147,8 +147,8 @@ impl Login {
 
     // The same, by what is read alone.
     fn read(item: Item) -> Result<Login, WireFault>
-        ensures read { IfOk result (λ l. login_in item ≡ Some (login_as l)) }
-        ensures none { IfErr result (NotRead (login_in item)) }
+        ensures read { Reads (login_in item) login_as result }
+        ensures none { Misses (login_in item) result }
     {
         let mut parts = Params::of(item)?;
         let mechanism = parts.word()?;
@@ -160,8 +160,8 @@ impl Login {
 impl Welcome {
     /// The welcome that an answer holds. `BadShape` (48) for another form, `OutOfMemory` (70).
     pub fn parse(alloc: Global, content: Params) -> Result<Welcome, WireFault>
-        ensures read { IfOk result (λ w. welcome_in (left_of content) ≡ Some (welcome_as w)) }
-        ensures none { IfErr result (NotRead (welcome_in (left_of content))) }
+        ensures read { Reads (welcome_in (left_of content)) welcome_as result }
+        ensures none { Misses (welcome_in (left_of content)) result }
         ensures judged { Judges IsWelcome welcome_as (left_of content) result }
     {
         Welcome::read(alloc, content)
@@ -169,8 +169,8 @@ impl Welcome {
 
     // The same, by what is read alone.
     fn read(alloc: Global, content: Params) -> Result<Welcome, WireFault>
-        ensures read { IfOk result (λ w. welcome_in (left_of content) ≡ Some (welcome_as w)) }
-        ensures none { IfErr result (NotRead (welcome_in (left_of content))) }
+        ensures read { Reads (welcome_in (left_of content)) welcome_as result }
+        ensures none { Misses (welcome_in (left_of content)) result }
     {
         let mut content = content;
         let identity = content.text()?;

@@ -5,8 +5,8 @@ ghost use Rattle.std.specs.Option.{option_map};
 ghost use Rattle.ra_item.specs.Items.{Then, End, Nested, row};
 ghost use Rattle.ra_wire.specs.Params.{left_of, parts_in, word_in, text_in, number_in, list_in, bool_in, path_in};
 ghost use Rattle.ra_wire.specs.Params.{prop_name_in, bracketed, perhaps, right, unslashed, each, word_of, words_in};
-ghost use Rattle.ra_wire.specs.Params.{NotRead};
 ghost use Rattle.node_base.specs.PathText.{path_read};
+ghost use Rattle.ra_wire.specs.Params.{Reads, ReadsNext, Misses};
 
 use crate::fault::WireFault;
 use node_base::{NodePath, PathFault, PropFault, PropName};
@@ -32,8 +32,8 @@ impl Params {
 
     /// The items of an item that is a list.
     pub fn of(item: Item) -> Result<Params, WireFault>
-        ensures read { IfOk result (λ p. parts_in item ≡ Some (left_of p)) }
-        ensures none { IfErr result (NotRead (parts_in item)) }
+        ensures read { Reads (parts_in item) left_of result }
+        ensures none { Misses (parts_in item) result }
     {
         match item.into_content() {
             Content::List(items) => Ok(Params::all(items)),
@@ -64,8 +64,8 @@ impl Params {
 
     /// The next item, which is a word.
     pub fn word(&mut self) -> Result<Vec<u8>, WireFault>
-        ensures read { IfOk result (λ w. word_in (left_of self.old) ≡ Some (w.items, left_of self.new)) }
-        ensures none { IfErr result (NotRead (word_in (left_of self.old))) }
+        ensures read { ReadsNext word_in (λ w. w.items) self.old self.new result }
+        ensures none { Misses (word_in (left_of self.old)) result }
     {
         match self.next()?.into_content() {
             Content::Word(word) => Ok(word),
@@ -75,8 +75,8 @@ impl Params {
 
     /// The next item, which is a string.
     pub fn text(&mut self) -> Result<Vec<u8>, WireFault>
-        ensures read { IfOk result (λ t. text_in (left_of self.old) ≡ Some (t.items, left_of self.new)) }
-        ensures none { IfErr result (NotRead (text_in (left_of self.old))) }
+        ensures read { ReadsNext text_in (λ t. t.items) self.old self.new result }
+        ensures none { Misses (text_in (left_of self.old)) result }
     {
         match self.next()?.into_content() {
             Content::Text(text) => Ok(text),
@@ -86,8 +86,8 @@ impl Params {
 
     /// The next item, which is a number.
     pub fn number(&mut self) -> Result<u64, WireFault>
-        ensures read { IfOk result (λ n. number_in (left_of self.old) ≡ Some (n, left_of self.new)) }
-        ensures none { IfErr result (NotRead (number_in (left_of self.old))) }
+        ensures read { ReadsNext number_in (λ n. n) self.old self.new result }
+        ensures none { Misses (number_in (left_of self.old)) result }
     {
         match self.next()?.into_content() {
             Content::Number(n) => Ok(n),
@@ -97,8 +97,8 @@ impl Params {
 
     /// The next item, which is a list, as its items.
     pub fn items(&mut self) -> Result<Vec<Item>, WireFault>
-        ensures read { IfOk result (λ l. list_in (left_of self.old) ≡ Some (row l.items, left_of self.new)) }
-        ensures none { IfErr result (NotRead (list_in (left_of self.old))) }
+        ensures read { ReadsNext list_in (λ l. row l.items) self.old self.new result }
+        ensures none { Misses (list_in (left_of self.old)) result }
     {
         match self.next()?.into_content() {
             Content::List(items) => Ok(items),
@@ -108,25 +108,24 @@ impl Params {
 
     /// The next item, which is a list.
     pub fn list(&mut self) -> Result<Params, WireFault>
-        ensures read { IfOk result (λ p. list_in (left_of self.old) ≡ Some (left_of p, left_of self.new)) }
-        ensures none { IfErr result (NotRead (list_in (left_of self.old))) }
+        ensures read { ReadsNext list_in left_of self.old self.new result }
+        ensures none { Misses (list_in (left_of self.old)) result }
     {
         Ok(Params::all(self.items()?))
     }
 
     /// The next item, which is a list of words.
     pub fn words(&mut self, alloc: Global) -> Result<Vec<Vec<u8>>, WireFault>
-        ensures read { IfOk result (λ ws. words_in (left_of self.old)
-            ≡ Some (map (λ w. w.items) ws.items, left_of self.new)) }
-        ensures none { IfErr result (NotRead (words_in (left_of self.old))) }
+        ensures read { ReadsNext words_in (λ ws. map (λ w. w.items) ws.items) self.old self.new result }
+        ensures none { Misses (words_in (left_of self.old)) result }
     {
         all_words(alloc, self.items()?)
     }
 
     /// The next item, which is one of the words true and false.
     pub fn boolean(&mut self) -> Result<bool, WireFault>
-        ensures read { IfOk result (λ b. bool_in (left_of self.old) ≡ Some (b, left_of self.new)) }
-        ensures none { IfErr result (NotRead (bool_in (left_of self.old))) }
+        ensures read { ReadsNext bool_in (λ b. b) self.old self.new result }
+        ensures none { Misses (bool_in (left_of self.old)) result }
     {
         let word = self.word()?;
         if word.as_slice() == b"true".as_slice() {
@@ -140,8 +139,8 @@ impl Params {
 
     /// The next item, which is a path, behind one slash or none.
     pub fn path(&mut self, alloc: Global) -> Result<NodePath, WireFault>
-        ensures read { IfOk result (λ p. path_in (left_of self.old) ≡ Some (p, left_of self.new)) }
-        ensures none { IfErr result (NotRead (path_in (left_of self.old))) }
+        ensures read { ReadsNext path_in (λ p. p) self.old self.new result }
+        ensures none { Misses (path_in (left_of self.old)) result }
     {
         let text = self.text()?;
         match NodePath::parse(alloc, without_slash(text.as_slice())) {
@@ -153,8 +152,8 @@ impl Params {
 
     /// The next item, which is a property's name.
     pub fn prop_name(&mut self) -> Result<PropName, WireFault>
-        ensures read { IfOk result (λ n. prop_name_in (left_of self.old) ≡ Some (n, left_of self.new)) }
-        ensures none { IfErr result (NotRead (prop_name_in (left_of self.old))) }
+        ensures read { ReadsNext prop_name_in (λ n. n) self.old self.new result }
+        ensures none { Misses (prop_name_in (left_of self.old)) result }
     {
         match PropName::from_bytes(self.text()?) {
             Ok(name) => Ok(name),
@@ -165,8 +164,8 @@ impl Params {
 
     /// A string at the end, or nothing.
     pub fn last_text(&mut self) -> Result<Option<Vec<u8>>, WireFault>
-        ensures read { IfOk result (λ t. perhaps text_in (left_of self.old) ≡ Some (option_map (λ s. s.items) t)) }
-        ensures none { IfErr result (NotRead (perhaps text_in (left_of self.old))) }
+        ensures read { Reads (perhaps text_in (left_of self.old)) (option_map (λ s. s.items)) result }
+        ensures none { Misses (perhaps text_in (left_of self.old)) result }
     {
         if self.is_empty() {
             return Ok(None);
@@ -177,7 +176,7 @@ impl Params {
     /// A number at the end, or nothing.
     pub fn last_number(&mut self) -> Result<Option<u64>, WireFault>
         ensures read { IfOk result (λ n. perhaps number_in (left_of self.old) ≡ Some n) }
-        ensures none { IfErr result (NotRead (perhaps number_in (left_of self.old))) }
+        ensures none { Misses (perhaps number_in (left_of self.old)) result }
     {
         if self.is_empty() {
             return Ok(None);
@@ -187,25 +186,24 @@ impl Params {
 
     /// Brackets with a number or nothing.
     pub fn maybe_number(&mut self) -> Result<Option<u64>, WireFault>
-        ensures read { IfOk result (λ n. bracketed number_in (left_of self.old) ≡ Some (n, left_of self.new)) }
-        ensures none { IfErr result (NotRead (bracketed number_in (left_of self.old))) }
+        ensures read { ReadsNext (bracketed number_in) (λ n. n) self.old self.new result }
+        ensures none { Misses (bracketed number_in (left_of self.old)) result }
     {
         self.list()?.last_number()
     }
 
     /// Brackets with a string or nothing.
     pub fn maybe_text(&mut self) -> Result<Option<Vec<u8>>, WireFault>
-        ensures read { IfOk result (λ t. bracketed text_in (left_of self.old)
-            ≡ Some (option_map (λ s. s.items) t, left_of self.new)) }
-        ensures none { IfErr result (NotRead (bracketed text_in (left_of self.old))) }
+        ensures read { ReadsNext (bracketed text_in) (option_map (λ s. s.items)) self.old self.new result }
+        ensures none { Misses (bracketed text_in (left_of self.old)) result }
     {
         self.list()?.last_text()
     }
 
     /// A list at the end, or nothing.
     pub fn last_list(&mut self) -> Result<Option<Params>, WireFault>
-        ensures read { IfOk result (λ l. perhaps list_in (left_of self.old) ≡ Some (option_map left_of l)) }
-        ensures none { IfErr result (NotRead (perhaps list_in (left_of self.old))) }
+        ensures read { Reads (perhaps list_in (left_of self.old)) (option_map left_of) result }
+        ensures none { Misses (perhaps list_in (left_of self.old)) result }
     {
         if self.is_empty() {
             return Ok(None);
@@ -217,7 +215,7 @@ impl Params {
 // An item that is a word.
 fn word_of(item: Item) -> Result<Vec<u8>, WireFault>
     ensures read { IfOk result (λ w. word_of item ≡ Some w.items) }
-    ensures none { IfErr result (NotRead (word_of item)) }
+    ensures none { Misses (word_of item) result }
 {
     match item.into_content() {
         Content::Word(word) => Ok(word),
@@ -227,8 +225,8 @@ fn word_of(item: Item) -> Result<Vec<u8>, WireFault>
 
 // Items that are all words.
 fn all_words(alloc: Global, items: Vec<Item>) -> Result<Vec<Vec<u8>>, WireFault>
-    ensures read { IfOk result (λ ws. each word_of (row items.items) ≡ Some (map (λ w. w.items) ws.items)) }
-    ensures none { IfErr result (NotRead (each word_of (row items.items))) }
+    ensures read { Reads (each word_of (row items.items)) (λ ws. map (λ w. w.items) ws.items) result }
+    ensures none { Misses (each word_of (row items.items)) result }
 {
     let mut words = Vec::new(alloc);
     for item in items {

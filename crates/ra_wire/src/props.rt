@@ -1,10 +1,9 @@
 //! Lists of properties.
 
 ghost use Rattle.std.specs.Prelude.{◌≡◌, IfOk, IfErr, Some, None};
-ghost use Rattle.std.specs.Option.{option_map};
 ghost use Rattle.std.specs.FinMap as finite;
 ghost use Rattle.ra_item.specs.Items.{row};
-ghost use Rattle.ra_wire.specs.Params.{left_of, NotRead};
+ghost use Rattle.ra_wire.specs.Params.{left_of, ReadsNext, ReadsFirst, Misses};
 ghost use Rattle.ra_wire.specs.Prototypes.{HasProps, AreRevprops, Judges};
 ghost use Rattle.ra_wire.specs.Answers.{short_value, with_property, one_more, properties_of, props_in, revprops_in};
 ghost use Rattle.ra_wire.specs.Limits.{named_text, with_text, is_past, stops_past, props_past, NotWithin, IsPast};
@@ -30,7 +29,7 @@ fn short_value(text: Vec<u8>) -> Result<PropValue, PropsFault>
 // The property that an item is, `( name value )`, whatever its value's length.
 fn named_text(item: Item) -> Result<(PropName, Vec<u8>), WireFault>
     ensures read { IfOk result (λ e. named_text item ≡ Some (e.0, e.1.items)) }
-    ensures none { IfErr result (NotRead (named_text item)) }
+    ensures none { Misses (named_text item) result }
 {
     let mut parts = Params::of(item)?;
     let name = parts.prop_name()?;
@@ -92,7 +91,7 @@ fn all_props(alloc: Global, items: Vec<Item>) -> Result<Props, PropsFault>
 /// it isn't, and for a name that is no property's; `TooLong` for a value or a number of properties past the limits;
 /// `OutOfMemory`.
 pub fn props_within(alloc: Global, params: &mut Params) -> Result<Props, PropsFault>
-    ensures read { IfOk result (λ m. props_in (left_of params.old) ≡ Some (m, left_of params.new)) }
+    ensures read { ReadsNext props_in (λ m. m) params.old params.new result }
     ensures none { IfErr result (NotWithin (props_in (left_of params.old)) (props_past (left_of params.old))) }
 {
     match params.items() {
@@ -103,8 +102,8 @@ pub fn props_within(alloc: Global, params: &mut Params) -> Result<Props, PropsFa
 
 /// The same, with `BadShape` (48) past the limits too; `OutOfMemory` (70).
 pub fn next_props(alloc: Global, params: &mut Params) -> Result<Props, WireFault>
-    ensures read { IfOk result (λ m. props_in (left_of params.old) ≡ Some (m, left_of params.new)) }
-    ensures none { IfErr result (NotRead (props_in (left_of params.old))) }
+    ensures read { ReadsNext props_in (λ m. m) params.old params.new result }
+    ensures none { Misses (props_in (left_of params.old)) result }
 {
     match props_within(alloc, params) {
         Ok(props) => Ok(props),
@@ -116,8 +115,8 @@ pub fn next_props(alloc: Global, params: &mut Params) -> Result<Props, WireFault
 
 /// The properties that an answer to `rev-proplist` holds. As [`next_props`].
 pub fn proplist(alloc: Global, content: Params) -> Result<Props, WireFault>
-    ensures read { IfOk result (λ m. option_map (λ r. r.0) (props_in (left_of content)) ≡ Some m) }
-    ensures none { IfErr result (NotRead (props_in (left_of content))) }
+    ensures read { ReadsFirst props_in (λ m. m) content result }
+    ensures none { Misses (props_in (left_of content)) result }
     ensures judged { Judges HasProps (λ m. m) (left_of content) result }
 {
     let mut content = content;
@@ -128,7 +127,7 @@ pub fn proplist(alloc: Global, content: Params) -> Result<Props, WireFault>
 /// [`next_props`].
 pub fn revprops(alloc: Global, item: Item) -> Result<Props, WireFault>
     ensures read { IfOk result (λ m. revprops_in item ≡ Some m) }
-    ensures none { IfErr result (NotRead (revprops_in item)) }
+    ensures none { Misses (revprops_in item) result }
     ensures judged { Judges AreRevprops (λ m. m) item result }
 {
     read_revprops(alloc, item)
@@ -137,7 +136,7 @@ pub fn revprops(alloc: Global, item: Item) -> Result<Props, WireFault>
 // The same, by what is read alone.
 fn read_revprops(alloc: Global, item: Item) -> Result<Props, WireFault>
     ensures read { IfOk result (λ m. revprops_in item ≡ Some m) }
-    ensures none { IfErr result (NotRead (revprops_in item)) }
+    ensures none { Misses (revprops_in item) result }
 {
     let mut parts = Params::of(item)?;
     if parts.word()?.as_slice() == b"revprops".as_slice() {

@@ -1,9 +1,9 @@
 //! An answer of a server.
 
-ghost use Rattle.std.specs.Prelude.{◌≡◌, map, IfOk, IfErr, Some, None};
+ghost use Rattle.std.specs.Prelude.{map, None};
 ghost use Rattle.std.specs.Option.{option_map};
 ghost use Rattle.ra_item.specs.Items.{row};
-ghost use Rattle.ra_wire.specs.Params.{left_of, each, NotRead};
+ghost use Rattle.ra_wire.specs.Params.{left_of, each, Reads, Misses};
 ghost use Rattle.ra_wire.specs.Prototypes.{IsRefused, IsReply, HasContent, Judges};
 ghost use Rattle.ra_wire.specs.Answers.{reply_in, reply_as, reply_of, refused_in, refused_as, content_in};
 
@@ -36,8 +36,8 @@ pub enum Reply {
 impl Refused {
     /// The refusal that an item is. `BadShape` (48) for another form.
     pub fn parse(item: Item) -> Result<Refused, WireFault>
-        ensures read { IfOk result (λ f. refused_in item ≡ Some (refused_as f)) }
-        ensures none { IfErr result (NotRead (refused_in item)) }
+        ensures read { Reads (refused_in item) refused_as result }
+        ensures none { Misses (refused_in item) result }
         ensures judged { Judges IsRefused refused_as item result }
     {
         Refused::read(item)
@@ -45,8 +45,8 @@ impl Refused {
 
     // The same, by what is read alone.
     fn read(item: Item) -> Result<Refused, WireFault>
-        ensures read { IfOk result (λ f. refused_in item ≡ Some (refused_as f)) }
-        ensures none { IfErr result (NotRead (refused_in item)) }
+        ensures read { Reads (refused_in item) refused_as result }
+        ensures none { Misses (refused_in item) result }
     {
         let mut parts = Params::of(item)?;
         let number = parts.number()?;
@@ -64,8 +64,8 @@ impl Refused {
 
 // Items that are all refusals.
 fn all_refused(alloc: Global, items: Vec<Item>) -> Result<Vec<Refused>, WireFault>
-    ensures read { IfOk result (λ fs. each refused_in (row items.items) ≡ Some (map refused_as fs.items)) }
-    ensures none { IfErr result (NotRead (each refused_in (row items.items))) }
+    ensures read { Reads (each refused_in (row items.items)) (λ fs. map refused_as fs.items) result }
+    ensures none { Misses (each refused_in (row items.items)) result }
 {
     let mut all = Vec::new(alloc);
     for item in items {
@@ -76,8 +76,8 @@ fn all_refused(alloc: Global, items: Vec<Item>) -> Result<Vec<Refused>, WireFaul
 
 // The answer of a word with items in brackets behind it.
 fn reply_of(alloc: Global, word: &[u8], items: Vec<Item>) -> Result<Reply, WireFault>
-    ensures read { IfOk result (λ r. reply_of word.now (row items.items) ≡ Some (reply_as r)) }
-    ensures none { IfErr result (NotRead (reply_of word.now (row items.items))) }
+    ensures read { Reads (reply_of word.now (row items.items)) reply_as result }
+    ensures none { Misses (reply_of word.now (row items.items)) result }
 {
     if word == b"success".as_slice() {
         Ok(Reply::Success(Params::all(items)))
@@ -91,8 +91,8 @@ fn reply_of(alloc: Global, word: &[u8], items: Vec<Item>) -> Result<Reply, WireF
 impl Reply {
     /// The answer that an item is. `BadShape` (48) for another form, `OutOfMemory` (70).
     pub fn parse(alloc: Global, item: Item) -> Result<Reply, WireFault>
-        ensures read { IfOk result (λ r. reply_in item ≡ Some (reply_as r)) }
-        ensures none { IfErr result (NotRead (reply_in item)) }
+        ensures read { Reads (reply_in item) reply_as result }
+        ensures none { Misses (reply_in item) result }
         ensures judged { Judges IsReply reply_as item result }
     {
         Reply::read(alloc, item)
@@ -100,8 +100,8 @@ impl Reply {
 
     // The same, by what is read alone.
     fn read(alloc: Global, item: Item) -> Result<Reply, WireFault>
-        ensures read { IfOk result (λ r. reply_in item ≡ Some (reply_as r)) }
-        ensures none { IfErr result (NotRead (reply_in item)) }
+        ensures read { Reads (reply_in item) reply_as result }
+        ensures none { Misses (reply_in item) result }
     {
         let mut parts = Params::of(item)?;
         let word = parts.word()?;
@@ -111,8 +111,8 @@ impl Reply {
 
     /// What an answer holds that is no failure. `BadShape` (48) for a failure and for another form, `OutOfMemory` (70).
     pub fn content(alloc: Global, item: Item) -> Result<Params, WireFault>
-        ensures read { IfOk result (λ p. content_in item ≡ Some (left_of p)) }
-        ensures none { IfErr result (NotRead (content_in item)) }
+        ensures read { Reads (content_in item) left_of result }
+        ensures none { Misses (content_in item) result }
         ensures judged { Judges HasContent left_of item result }
     {
         Reply::held(alloc, item)
@@ -120,8 +120,8 @@ impl Reply {
 
     // The same, by what is read alone.
     fn held(alloc: Global, item: Item) -> Result<Params, WireFault>
-        ensures read { IfOk result (λ p. content_in item ≡ Some (left_of p)) }
-        ensures none { IfErr result (NotRead (content_in item)) }
+        ensures read { Reads (content_in item) left_of result }
+        ensures none { Misses (content_in item) result }
     {
         match Reply::read(alloc, item)? {
             Reply::Success(content) => Ok(content),
