@@ -1,5 +1,6 @@
 -- How deep a tree is looked at.
 use Rattle.std.specs.Prelude.{Bool, true, false, List, [], ◌∷◌, Option, Some, None, is_some, if◌then◌else◌}
+use Rattle.std.specs.List.{filter}
 use Rattle.std.specs.Option.{option_and_then, option_map_or}
 use Rattle.std.specs.FinMap as finite
 use Rattle.node_base.specs.Path.{Name, Path}
@@ -35,6 +36,10 @@ within d f p = option_and_then (λ x. if is_within d p x then Some x else None) 
 -- the same of a listing's entry
 abbrev pub is_listed : Depth → Path × Node → Bool
 is_listed d e = is_within d e.0 e.1
+
+-- a listing of what is looked at
+abbrev pub listed : Depth → PathMap → List (Path × Node)
+listed d m = filter (is_listed d) (finite.entries m)
 
 -- the root's entry, where there is one
 abbrev pub root_of : PathMap → List (Path × Node)

@@ -6,3 +6,4 @@ pub mod Folders
 pub mod Merged
 pub mod Reports
 pub mod Sparse
+pub mod Trees

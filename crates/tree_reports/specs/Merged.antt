@@ -1,10 +1,13 @@
 -- Two listings in path order, merged.
-use Rattle.std.specs.Prelude.{◌≡◌, ◌+◌, ◌<◌, List, [], ◌∷◌, ◌++◌, length, map, Bool, Option, Some, None}
+use Rattle.std.specs.Prelude.{◌≡◌, ◌+◌, ◌<◌, List, [], ◌∷◌, ◌++◌, length, map, Bool, Option, Some, None, is_some}
 use Rattle.std.specs.Option.{option_copied}
+use Rattle.std.specs.FinMap as finite
 use Rattle.std.specs.FinMap.Entries.{by_order}
 use Rattle.node_base.specs.Path.{Path, path_cmp}
+use Rattle.node_base.specs.Tree.{PathMap, blocked}
 use Rattle.node_base.specs.declared.node.Node.{Node}
 use Rattle.path_tree.specs.Listed.{shown, shown_names}
+use Rattle.path_tree.specs.declared.listing.Entry.{Entry}
 use Rattle.tree_reports.specs.declared.merge.Merge.{Merge}
 use Rattle.tree_reports.specs.declared.merge.Pair.{Pair}
 use Rattle.tree_reports.specs.declared.difference.Difference.{Difference}
@@ -45,6 +48,26 @@ telling opens above (e ∷ es) = if_told e.0 (told opens e.1.old e.1.new (above 
 -- a pair without where its nodes lie in memory
 abbrev pub both_of : Pair → Both
 both_of p = record { old = option_copied p.old; new = option_copied p.new }
+
+-- a pair's path
+abbrev pub path_of : Pair → Path
+path_of p = shown_names p.path.now
+
+-- both of these
+abbrev pub pair_of : Pair → Path × Both
+pair_of p = (path_of p, both_of p)
+
+-- an entry without where its path and its node lie in memory
+abbrev pub entry_of : Entry → Path × Node
+entry_of e = (shown_names e.path.items, e.node.now)
+
+-- whether what is above a path is no directory in a tree
+abbrev pub is_below_gone : PathMap → Path → Bool
+is_below_gone m p = is_some (blocked (finite.get m) p)
+
+-- what is told of a pair, by the new tree
+abbrev pub pair_told : Bool → PathMap → Pair → Option Told
+pair_told opens new p = told opens (both_of p).old (both_of p).new (is_below_gone new (path_of p))
 
 -- what is to come of both listings
 abbrev pub to_come : Merge → List (Path × Both)

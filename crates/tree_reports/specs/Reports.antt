@@ -3,7 +3,7 @@ use Rattle.std.specs.Prelude.{◌≡◌, Bool, true, false, not, ◌&&◌, [], �
 use Rattle.std.specs.Option.{option_map, option_map_or, option_or}
 use Rattle.std.specs.FinMap as finite
 use Rattle.node_base.specs.Path.{Path, rest_after, same_path}
-use Rattle.node_base.specs.Tree.{PathMap, blocked, new_dir}
+use Rattle.node_base.specs.Tree.{PathMap, alone, blocked, new_dir}
 use Rattle.node_base.specs.declared.node.Node.{Node}
 use Rattle.path_tree.specs.Copies.{copy_too_long}
 use Rattle.tree_reports.specs.declared.error.ReportError.{ReportError}
@@ -34,6 +34,10 @@ brought true m source (n ∷ r) = None
 -- what stands at a source and below it, looked at so deep
 abbrev pub brought_within : Depth → PathMap → Path → Path → Option Content
 brought_within d m source r = option_map content (within d (λ q. finite.get m (source ++ q)) r)
+
+-- a new folder with nothing in it
+abbrev pub bare : Path → Option Content
+bare r = option_map content (alone new_dir r)
 
 abbrev pub due : Bool → ReportError → Option ReportError
 due b e = if b then Some e else None

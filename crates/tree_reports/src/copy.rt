@@ -1,11 +1,13 @@
 //! What stands at a place of one tree, put into another.
 
-ghost use Rattle.std.specs.Prelude.{◌≡◌, ◌++◌, [], false, None, OnOk};
+ghost use Rattle.std.specs.Prelude.{◌≡◌, [], false, None, OnOk};
 ghost use Rattle.std.specs.FinMap as finite;
-ghost use Rattle.node_base.specs.Path.{Path, same_path};
-ghost use Rattle.node_base.specs.Tree.{blocked, grafted};
+ghost use Rattle.node_base.specs.Path.{same_path};
+ghost use Rattle.node_base.specs.Tree.{blocked};
 ghost use Rattle.path_tree.specs.Copies.{copy_too_long};
 ghost use Rattle.tree_reports.specs.Copied.{marked_back, number_in};
+ghost use Rattle.tree_reports.specs.Folders.{in_folder};
+ghost use Rattle.tree_reports.specs.Trees.{HasNodes, Grafts, GraftsMarked};
 
 use node_base::{NodeName, NodePath, RevNo};
 use path_tree::Tree;
@@ -23,8 +25,7 @@ pub fn put_copy(
     requires below_root { same_path path.now [] ≡ false }
     requires not_blocked { blocked (finite.get tree.old) path.now ≡ None }
     requires small { copy_too_long from.now source.now path.now ≡ false }
-    ensures { OnOk result ((q : Path) → finite.get tree.new q
-        ≡ grafted (finite.get tree.old) path.now (λ r. finite.get from.now (source.now ++ r)) q) }
+    ensures { Grafts tree.old tree.new path.now (in_folder from.now source.now) result }
 {
     let before = tree.share()?;
     put_marked(alloc, tree, path, from, source)?;
@@ -42,8 +43,7 @@ fn put_marked(
     requires below_root { same_path path.now [] ≡ false }
     requires not_blocked { blocked (finite.get tree.old) path.now ≡ None }
     requires small { copy_too_long from.now source.now path.now ≡ false }
-    ensures { OnOk result ((q : Path) → marked_back (finite.get tree.old) path.now (finite.get tree.new) q
-        ≡ grafted (finite.get tree.old) path.now (λ r. finite.get from.now (source.now ++ r)) q) }
+    ensures { GraftsMarked tree.old tree.new path.now (in_folder from.now source.now) result }
 {
     // For the proof: below a path at which nothing stands, nothing does.
     from.is_tree();
@@ -60,8 +60,7 @@ fn mark_back(
     before: &Tree,
     path: &[NodeName],
 ) -> Result<(), AllocError>
-    ensures { OnOk result ((q : Path) → finite.get tree.new q
-        ≡ marked_back (finite.get before.now) path.now (finite.get tree.old) q) }
+    ensures { OnOk result (HasNodes tree.new (marked_back (finite.get before.now) path.now (finite.get tree.old))) }
 {
     let Some((_, above)) = path.split_last() else {
         return Ok(());

@@ -1,10 +1,10 @@
 //! How deep a tree is looked at.
 ghost use Rattle.std.specs.Prelude.{◌≡◌, ◌++◌, [], IfOk};
-ghost use Rattle.std.specs.List.{filter, flat_map};
+ghost use Rattle.std.specs.List.{flat_map};
 ghost use Rattle.std.specs.FinMap as map;
 ghost use Rattle.path_tree.specs.Children.{children_of};
 ghost use Rattle.path_tree.specs.Listed.{shown};
-ghost use Rattle.tree_reports.specs.Depths.{is_listed, takes_child, root_of, picked};
+ghost use Rattle.tree_reports.specs.Depths.{takes_child, root_of, picked, listed};
 
 use node_base::Node;
 use path_tree::{ChildNode, Entry, Tree};
@@ -29,7 +29,7 @@ pub(crate) fn list_within<'a>(
     tree: &'a Tree,
     depth: Depth,
 ) -> Result<Vec<Entry<'a>>, AllocError>
-    ensures { IfOk result (λ es. shown es.items ≡ filter (is_listed depth) (map.entries tree.now)) }
+    ensures { IfOk result (λ es. shown es.items ≡ listed depth tree.now) }
 {
     tree.is_tree();
     match depth {
@@ -70,7 +70,8 @@ fn list_shallow<'a>(
     tree: &'a Tree,
     depth: Depth,
 ) -> Result<Vec<Entry<'a>>, AllocError>
-    ensures { IfOk result (λ es. shown es.items ≡ root_of tree.now ++ flat_map (picked depth) (children_of [] tree.now)) }
+    ensures { IfOk result (λ es. shown es.items ≡ root_of tree.now ++ flat_map (picked depth)
+        (children_of [] tree.now)) }
 {
     let mut found = list_root(alloc, tree)?;
     let mut children = tree.children(alloc, &[])?;

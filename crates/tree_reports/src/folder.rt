@@ -1,11 +1,12 @@
 //! A folder of a tree as a tree of its own.
-ghost use Rattle.std.specs.Prelude.{◌≡◌, ◌++◌, ◌∷◌, [], true, None, IfOk, OnOk, IsSome, IsNone};
+ghost use Rattle.std.specs.Prelude.{◌≡◌, ◌++◌, ◌∷◌, [], true, IfOk, OnOk, IsSome, IsNone};
 ghost use Rattle.std.specs.FinMap as map;
 ghost use Rattle.node_base.specs.Limits.{fits};
-ghost use Rattle.node_base.specs.Path.{Name, Path};
+ghost use Rattle.node_base.specs.Path.{Path};
 ghost use Rattle.node_base.specs.Tree.{IsDirAt, alone};
 ghost use Rattle.path_tree.specs.Calls.{copied};
 ghost use Rattle.tree_reports.specs.Folders.{IsGrafted, in_folder};
+ghost use Rattle.tree_reports.specs.Trees.{HasNoEntries, Makes};
 
 use node_base::{Node, NodeName, NodePath, PathFault, RevNo};
 use path_tree::{ChildNode, Tree};
@@ -15,7 +16,7 @@ use std::alloc::{AllocError, Global};
 /// children are gone through: what is below them is shared.
 pub fn subtree(alloc: Global, tree: &Tree, folder: &NodePath) -> Result<Tree, AllocError>
     requires { IsDirAt (map.get tree.now) folder.now }
-    ensures { IfOk result (λ t. (q : Path) → map.get t q ≡ map.get tree.now (folder.now ++ q)) }
+    ensures { Makes (in_folder tree.now folder.now) result }
 {
     let Some(node) = tree.get(folder.names()) else {
         unreachable!()
@@ -29,7 +30,7 @@ pub fn subtree(alloc: Global, tree: &Tree, folder: &NodePath) -> Result<Tree, Al
 // A folder's node alone.
 pub(crate) fn root_like(alloc: Global, node: &Node) -> Result<Tree, AllocError>
     requires { IsNone node.now.text }
-    ensures { IfOk result (λ t. (q : Path) → map.get t q ≡ alone node.now q) }
+    ensures { Makes (alone node.now) result }
 {
     let mut root = Tree::empty(alloc)?;
     root.put_parts(alloc, &[], None, Some(node.props.share()?), node.changed)?;
@@ -43,7 +44,7 @@ fn graft_children(
     tree: &Tree,
     folder: &NodePath,
 ) -> Result<(), AllocError>
-    requires { (n : Name) (q : Path) → map.get top.old (n ∷ q) ≡ None }
+    requires { HasNoEntries top.old }
     ensures { OnOk result (IsGrafted tree.now folder.now (in_folder tree.now folder.now) top.old top.new []) }
 {
     tree.is_tree();
@@ -65,8 +66,8 @@ fn graft_child(
     number: RevNo,
 ) -> Result<(), AllocError>
     requires { IsSome (map.get tree.now (folder.now ++ name.now ∷ [])) }
-    ensures { OnOk result ((q : Path) → map.get top.new q ≡ copied (map.get top.old) (name.now ∷ [])
-        (λ r. map.get tree.now ((folder.now ++ name.now ∷ []) ++ r)) number q) }
+    ensures { OnOk result ((q : Path) → map.get top.new q
+        ≡ copied (map.get top.old) (name.now ∷ []) (in_folder tree.now (folder.now ++ name.now ∷ [])) number q) }
 {
     top.is_tree();
     tree.is_tree();

@@ -1,11 +1,10 @@
 //! A folder of a tree, looked at to a depth, as a tree of its own.
-ghost use Rattle.std.specs.Prelude.{◌≡◌, ◌++◌, ◌∷◌, [], false, None, IfOk, OnOk, if◌then◌else◌};
+ghost use Rattle.std.specs.Prelude.{◌≡◌, [], false, OnOk};
 ghost use Rattle.std.specs.FinMap as map;
-ghost use Rattle.node_base.specs.Path.{Name, Path};
 ghost use Rattle.node_base.specs.Tree.{IsDirAt};
-ghost use Rattle.path_tree.specs.Calls.{added};
-ghost use Rattle.tree_reports.specs.Depths.{goes_below, takes_child, within};
+ghost use Rattle.tree_reports.specs.Depths.{goes_below, within};
 ghost use Rattle.tree_reports.specs.Folders.{IsGrafted, in_folder};
+ghost use Rattle.tree_reports.specs.Trees.{HasNodes, HasNoEntries, Makes, with_child};
 ghost use Rattle.tree_reports.specs.declared.depth.Depth.TheVariants.{Empty};
 
 use crate::depth::{Depth, takes_child};
@@ -23,8 +22,7 @@ pub fn limited(
     depth: Depth,
 ) -> Result<Tree, AllocError>
     requires { IsDirAt (map.get tree.now) folder.now }
-    ensures { IfOk result (λ t. (q : Path) → map.get t q
-        ≡ within depth (λ r. map.get tree.now (folder.now ++ r)) q) }
+    ensures { Makes (within depth (in_folder tree.now folder.now)) result }
 {
     match depth {
         Depth::Infinity => subtree(alloc, tree, folder),
@@ -38,7 +36,7 @@ pub fn limited(
 #[tactic(auto, using(crate::proofs::Taken::alone_within))]
 fn bare(alloc: Global, tree: &Tree, folder: &NodePath) -> Result<Tree, AllocError>
     requires { IsDirAt (map.get tree.now) folder.now }
-    ensures { IfOk result (λ t. (q : Path) → map.get t q ≡ within Empty (in_folder tree.now folder.now) q) }
+    ensures { Makes (within Empty (in_folder tree.now folder.now)) result }
 {
     let Some(node) = tree.get(folder.names()) else {
         unreachable!()
@@ -50,7 +48,7 @@ fn bare(alloc: Global, tree: &Tree, folder: &NodePath) -> Result<Tree, AllocErro
 fn shallow(alloc: Global, tree: &Tree, folder: &NodePath, depth: Depth) -> Result<Tree, AllocError>
     requires dir { IsDirAt (map.get tree.now) folder.now }
     requires shallow { goes_below depth ≡ false }
-    ensures { IfOk result (λ t. (q : Path) → map.get t q ≡ within depth (in_folder tree.now folder.now) q) }
+    ensures { Makes (within depth (in_folder tree.now folder.now)) result }
 {
     let Some(node) = tree.get(folder.names()) else {
         unreachable!()
@@ -70,7 +68,7 @@ fn put_children(
     depth: Depth,
 ) -> Result<(), AllocError>
     requires shallow { goes_below depth ≡ false }
-    requires blank { (n : Name) (q : Path) → map.get top.old (n ∷ q) ≡ None }
+    requires blank { HasNoEntries top.old }
     ensures { OnOk result (IsGrafted tree.now folder.now (within depth (in_folder tree.now folder.now))
         top.old top.new []) }
 {
@@ -91,8 +89,7 @@ fn put_child(
     node: &Node,
     depth: Depth,
 ) -> Result<(), AllocError>
-    ensures { OnOk result ((q : Path) → map.get top.new q ≡ (if takes_child depth node.now
-        then added (map.get top.old) (name.now ∷ []) node.now q else map.get top.old q)) }
+    ensures { OnOk result (HasNodes top.new (with_child depth (map.get top.old) name.now node.now)) }
 {
     if !takes_child(depth, node) {
         return Ok(());

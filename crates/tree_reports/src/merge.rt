@@ -2,7 +2,7 @@
 ghost use Rattle.std.specs.Prelude.{◌≡◌, [], MatchOption};
 ghost use Rattle.node_base.specs.Path.{path_cmp};
 ghost use Rattle.path_tree.specs.Listed.{shown_names};
-ghost use Rattle.tree_reports.specs.Merged.{IsNext, only_old, only_new, in_both, both_of, to_come};
+ghost use Rattle.tree_reports.specs.Merged.{IsNext, only_old, only_new, in_both, to_come, pair_of, entry_of};
 
 use node_base::{Node, NodeName};
 use path_tree::Entry;
@@ -45,7 +45,7 @@ fn compare(left: &[&NodeName], right: &[&NodeName]) -> Ordering
 
 // An entry of the old tree alone.
 fn only_old<'l, 'a>(entry: &'l Entry<'a>) -> Pair<'l, 'a>
-    ensures { (shown_names result.path.now, both_of result) ≡ only_old (shown_names entry.now.path.items, entry.now.node.now) }
+    ensures { pair_of result ≡ only_old (entry_of entry.now) }
 {
     Pair {
         path: entry.path.as_slice(),
@@ -56,7 +56,7 @@ fn only_old<'l, 'a>(entry: &'l Entry<'a>) -> Pair<'l, 'a>
 
 // An entry of the new tree alone.
 fn only_new<'l, 'a>(entry: &'l Entry<'a>) -> Pair<'l, 'a>
-    ensures { (shown_names result.path.now, both_of result) ≡ only_new (shown_names entry.now.path.items, entry.now.node.now) }
+    ensures { pair_of result ≡ only_new (entry_of entry.now) }
 {
     Pair {
         path: entry.path.as_slice(),
@@ -67,7 +67,7 @@ fn only_new<'l, 'a>(entry: &'l Entry<'a>) -> Pair<'l, 'a>
 
 // An entry of each tree, of one path.
 fn in_both<'l, 'a>(old: &'l Entry<'a>, new: &Entry<'a>) -> Pair<'l, 'a>
-    ensures { (shown_names result.path.now, both_of result) ≡ in_both (shown_names old.now.path.items, old.now.node.now) (shown_names new.now.path.items, new.now.node.now) }
+    ensures { pair_of result ≡ in_both (entry_of old.now) (entry_of new.now) }
 {
     Pair {
         path: old.path.as_slice(),

@@ -1,13 +1,14 @@
 //! The tree that a working copy has, report by report.
-ghost use Rattle.std.specs.Prelude.{◌≡◌, [], true, false, None, IfOk, OnOk, OnErr, IsSome};
-ghost use Rattle.std.specs.Option.{option_map};
+ghost use Rattle.std.specs.Prelude.{◌≡◌, [], true, false, None, IfOk, OnErr, IsSome};
 ghost use Rattle.std.specs.FinMap as map;
-ghost use Rattle.node_base.specs.Path.{Path, same_path};
+ghost use Rattle.node_base.specs.Path.{same_path};
 ghost use Rattle.node_base.specs.Tree.{alone, blocked, new_dir};
 ghost use Rattle.path_tree.specs.Copies.{copy_too_long};
 ghost use Rattle.tree_reports.specs.declared.error.ReportError.TheVariants.{Root};
 ghost use Rattle.tree_reports.specs.Applied.{content};
-ghost use Rattle.tree_reports.specs.Reports.{Answers, brought, brought_within, content_at, due, emptied, leave_fault, placed, report_fault};
+ghost use Rattle.tree_reports.specs.Reports.{Answers, brought, brought_within, due, emptied, leave_fault, report_fault};
+ghost use Rattle.tree_reports.specs.Reports.{bare};
+ghost use Rattle.tree_reports.specs.Trees.{Makes, Reports};
 
 use crate::depth::Depth;
 use crate::error::ReportError;
@@ -45,7 +46,7 @@ impl Report {
 
     /// A folder without what is in it and without properties, as it is where the working copy begins empty.
     pub fn begin_empty(alloc: Global) -> Result<Report, AllocError>
-        ensures { IfOk result (λ r. (q : Path) → map.get r q ≡ alone new_dir q) }
+        ensures { Makes (alone new_dir) result }
     {
         Ok(Report {
             tree: Tree::empty(alloc)?,
@@ -73,8 +74,7 @@ impl Report {
         empty: bool,
     ) -> Result<(), ReportError>
         ensures answer { Answers (report_fault self.old path.now from.now source.now empty) result }
-        ensures ok { OnOk result ((q : Path) → content_at self.new q
-            ≡ placed (content_at self.old) path.now (brought empty from.now source.now) q) }
+        ensures ok { Reports self.old self.new path.now (brought empty from.now source.now) result }
         ensures err { OnErr result (self.new ≡ self.old) }
     {
         if let Some(fault) = self.fault(path, from, source, empty) {
@@ -96,8 +96,7 @@ impl Report {
         depth: Depth,
     ) -> Result<(), ReportError>
         ensures answer { Answers (report_fault self.old path.now from.now source.now false) result }
-        ensures ok { OnOk result ((q : Path) → content_at self.new q
-            ≡ placed (content_at self.old) path.now (brought_within depth from.now source.now) q) }
+        ensures ok { Reports self.old self.new path.now (brought_within depth from.now source.now) result }
         ensures err { OnErr result (self.new ≡ self.old) }
     {
         if let Some(fault) = self.fault(path, from, source, false) {
@@ -110,8 +109,7 @@ impl Report {
     /// above which no folder was reported.
     pub fn leave_out(&mut self, alloc: Global, path: &NodePath) -> Result<(), ReportError>
         ensures answer { Answers (leave_fault self.old path.now) result }
-        ensures ok { OnOk result ((q : Path) → content_at self.new q
-            ≡ placed (content_at self.old) path.now (λ r. option_map content (alone new_dir r)) q) }
+        ensures ok { Reports self.old self.new path.now bare result }
         ensures err { OnErr result (self.new ≡ self.old) }
     {
         if let Some(fault) = self.place_fault(path) {
@@ -123,8 +121,7 @@ impl Report {
     /// Reports that the working copy has nothing at a path. Refused: the root.
     pub fn delete_path(&mut self, alloc: Global, path: &NodePath) -> Result<(), ReportError>
         ensures answer { Answers (due (same_path path.now []) Root) result }
-        ensures ok { OnOk result ((q : Path) → content_at self.new q
-            ≡ placed (content_at self.old) path.now (λ _. None) q) }
+        ensures ok { Reports self.old self.new path.now (λ _. None) result }
         ensures err { OnErr result (self.new ≡ self.old) }
     {
         if path.is_root() {
@@ -179,8 +176,7 @@ impl Report {
         requires not_blocked { blocked (map.get self.old) path.now ≡ None }
         requires there { IsSome (map.get from.now source.now) }
         requires small { copy_too_long from.now source.now path.now ≡ false }
-        ensures ok { OnOk result ((q : Path) → content_at self.new q
-            ≡ placed (content_at self.old) path.now (brought false from.now source.now) q) }
+        ensures ok { Reports self.old self.new path.now (brought false from.now source.now) result }
         ensures err { OnErr result (self.new ≡ self.old) }
     {
         let Some(node) = from.get(source.names()) else {
@@ -203,8 +199,7 @@ impl Report {
         requires not_blocked { blocked (map.get self.old) path.now ≡ None }
         requires there { IsSome (map.get from.now source.now) }
         requires small { copy_too_long from.now source.now path.now ≡ false }
-        ensures ok { OnOk result ((q : Path) → content_at self.new q
-            ≡ placed (content_at self.old) path.now (brought_within depth from.now source.now) q) }
+        ensures ok { Reports self.old self.new path.now (brought_within depth from.now source.now) result }
         ensures err { OnErr result (self.new ≡ self.old) }
     {
         if depth == Depth::Infinity {
@@ -232,8 +227,7 @@ impl Report {
         requires below_root { same_path path.now [] ≡ false }
         requires not_blocked { blocked (map.get self.old) path.now ≡ None }
         requires there { IsSome (map.get from.now source.now) }
-        ensures ok { OnOk result ((q : Path) → content_at self.new q
-            ≡ placed (content_at self.old) path.now (brought true from.now source.now) q) }
+        ensures ok { Reports self.old self.new path.now (brought true from.now source.now) result }
         ensures err { OnErr result (self.new ≡ self.old) }
     {
         let Some(node) = from.get(source.names()) else {
@@ -247,8 +241,7 @@ impl Report {
     fn put_bare(&mut self, alloc: Global, path: &NodePath) -> Result<(), AllocError>
         requires below_root { same_path path.now [] ≡ false }
         requires not_blocked { blocked (map.get self.old) path.now ≡ None }
-        ensures ok { OnOk result ((q : Path) → content_at self.new q
-            ≡ placed (content_at self.old) path.now (λ r. option_map content (alone new_dir r)) q) }
+        ensures ok { Reports self.old self.new path.now bare result }
         ensures err { OnErr result (self.new ≡ self.old) }
     {
         self.tree.put_node(alloc, path, Node::new_dir())
@@ -256,8 +249,7 @@ impl Report {
 
     fn prune(&mut self, alloc: Global, path: &NodePath) -> Result<(), AllocError>
         requires { same_path path.now [] ≡ false }
-        ensures ok { OnOk result ((q : Path) → content_at self.new q
-            ≡ placed (content_at self.old) path.now (λ _. None) q) }
+        ensures ok { Reports self.old self.new path.now (λ _. None) result }
         ensures err { OnErr result (self.new ≡ self.old) }
     {
         self.tree.prune(alloc, path.names(), RevNo::ZERO)

@@ -1,11 +1,13 @@
 //! What a sparse working copy has of a tree.
-ghost use Rattle.std.specs.Prelude.{◌≡◌, ◌++◌, [], false, None, IfOk, OnOk};
+ghost use Rattle.std.specs.Prelude.{◌≡◌, [], false, None, OnOk};
 ghost use Rattle.std.specs.FinMap as map;
 ghost use Rattle.node_base.specs.Path.{Path, same_path};
 ghost use Rattle.node_base.specs.Tree.{blocked, grafted};
 ghost use Rattle.path_tree.specs.Calls.{is_dir};
 ghost use Rattle.tree_reports.specs.Depths.{goes_below, within};
+ghost use Rattle.tree_reports.specs.Folders.{in_folder};
 ghost use Rattle.tree_reports.specs.Sparse.{part_of, with_limit, with_limits};
+ghost use Rattle.tree_reports.specs.Trees.{Makes, Grafts};
 ghost use Rattle.tree_reports.specs.declared.sparse.Part.TheVariants.{LeftOut};
 
 use crate::copy::put_copy;
@@ -39,8 +41,7 @@ pub fn limit_all(
     whole: &Tree,
     limits: &[Limit],
 ) -> Result<Tree, AllocError>
-    ensures { IfOk result (λ t. (q : Path) → map.get t q
-        ≡ with_limits (map.get tree) (map.get whole.now) limits.now q) }
+    ensures { Makes (with_limits (map.get tree) (map.get whole.now) limits.now) result }
 {
     let mut top = tree;
     for limit in limits {
@@ -52,8 +53,7 @@ pub fn limit_all(
 /// The tree with, at the path of a limit, so much of what the whole has there. A limit below no folder changes nothing.
 /// All numbers of the whole stay.
 pub fn limit_one(alloc: Global, tree: Tree, whole: &Tree, limit: &Limit) -> Result<Tree, AllocError>
-    ensures { IfOk result (λ t. (q : Path) → map.get t q
-        ≡ with_limit (map.get tree) (map.get whole.now) limit.now q) }
+    ensures { Makes (with_limit (map.get tree) (map.get whole.now) limit.now) result }
 {
     if limit.path.is_root() {
         return part_of(alloc, whole, limit.part);
@@ -68,7 +68,7 @@ pub fn limit_one(alloc: Global, tree: Tree, whole: &Tree, limit: &Limit) -> Resu
 
 // So much of a tree.
 fn part_of(alloc: Global, whole: &Tree, part: Part) -> Result<Tree, AllocError>
-    ensures { IfOk result (λ t. (q : Path) → map.get t q ≡ part_of part (map.get whole.now) [] q) }
+    ensures { Makes (part_of part (map.get whole.now) []) result }
 {
     whole.is_tree();
     match part {
@@ -79,7 +79,7 @@ fn part_of(alloc: Global, whole: &Tree, part: Part) -> Result<Tree, AllocError>
 
 // What is looked at of a tree.
 fn tree_within(alloc: Global, tree: &Tree, depth: Depth) -> Result<Tree, AllocError>
-    ensures { IfOk result (λ t. (q : Path) → map.get t q ≡ within depth (map.get tree.now) q) }
+    ensures { Makes (within depth (map.get tree.now)) result }
 {
     tree.is_tree();
     if goes_below(depth) {
@@ -111,8 +111,7 @@ fn put_within(
 ) -> Result<(), AllocError>
     requires below_root { same_path path.now [] ≡ false }
     requires not_blocked { blocked (map.get top.old) path.now ≡ None }
-    ensures { OnOk result ((q : Path) → map.get top.new q
-        ≡ grafted (map.get top.old) path.now (within depth (λ r. map.get from.now (path.now ++ r))) q) }
+    ensures { Grafts top.old top.new path.now (within depth (in_folder from.now path.now)) result }
 {
     from.is_tree();
     if goes_below(depth) || !is_dir(from, path) {
@@ -131,8 +130,7 @@ fn put_left_out(
 ) -> Result<(), AllocError>
     requires below_root { same_path path.now [] ≡ false }
     requires not_blocked { blocked (map.get top.old) path.now ≡ None }
-    ensures { OnOk result ((q : Path) → map.get top.new q
-        ≡ grafted (map.get top.old) path.now (part_of LeftOut (map.get from.now) path.now) q) }
+    ensures { Grafts top.old top.new path.now (part_of LeftOut (map.get from.now) path.now) result }
 {
     from.is_tree();
     if from.get(path.names()).is_none() {

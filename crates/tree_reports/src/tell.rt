@@ -1,14 +1,13 @@
 //! The differences of two trees.
-ghost use Rattle.std.specs.Prelude.{◌≡◌, IfOk, None, is_some};
+ghost use Rattle.std.specs.Prelude.{◌≡◌, IfOk};
 ghost use Rattle.std.specs.Option.{option_map};
-ghost use Rattle.std.specs.List.{filter};
 ghost use Rattle.std.specs.FinMap as map;
-ghost use Rattle.node_base.specs.Tree.{blocked};
 ghost use Rattle.path_tree.specs.Listed.{shown_names};
 ghost use Rattle.tree_reports.specs.Applied.{Make};
-ghost use Rattle.tree_reports.specs.Depths.{is_listed, within};
-ghost use Rattle.tree_reports.specs.Differences.{AreDifferences, is_same_text, parts_of, told, told_both, told_gone, told_of, shown};
+ghost use Rattle.tree_reports.specs.Depths.{within, listed};
+ghost use Rattle.tree_reports.specs.Differences.{AreDifferences, is_same_text, parts_of, told_both, told_gone, told_of, shown};
 ghost use Rattle.tree_reports.specs.Merged.{if_told, merged, telling, shown_option, both_of};
+ghost use Rattle.tree_reports.specs.Merged.{path_of, is_below_gone, pair_told};
 
 use crate::depth::{Depth, list_within};
 use crate::difference::{Change, Difference, Parts};
@@ -48,8 +47,8 @@ fn list_differences<'a>(
     depth: Depth,
     opens: bool,
 ) -> Result<Vec<Difference<'a>>, AllocError>
-    ensures { IfOk result (λ ds. shown ds.items ≡ telling opens (λ p. is_some (blocked (map.get new.now) p))
-        (merged (filter (is_listed depth) (map.entries old.now)) (filter (is_listed depth) (map.entries new.now)))) }
+    ensures { IfOk result (λ ds. shown ds.items ≡ telling opens (is_below_gone new.now)
+        (merged (listed depth old.now) (listed depth new.now))) }
 {
     let before = list_within(alloc, old, depth)?;
     let after = list_within(alloc, new, depth)?;
@@ -74,9 +73,7 @@ fn difference_at<'a>(
     pair: &Pair<'_, 'a>,
     opens: bool,
 ) -> Result<Option<Difference<'a>>, AllocError>
-    ensures { IfOk result (λ d. shown_option d ≡ if_told (shown_names pair.now.path.now)
-        (told opens (both_of pair.now).old (both_of pair.now).new
-        (is_some (blocked (map.get new.now) (shown_names pair.now.path.now))))) }
+    ensures { IfOk result (λ d. shown_option d ≡ if_told (path_of pair.now) (pair_told opens new.now pair.now)) }
 {
     let Some(change) = change_at(alloc, new, pair, opens)? else {
         return Ok(None);
@@ -91,9 +88,7 @@ fn change_at<'a>(
     pair: &Pair<'_, 'a>,
     opens: bool,
 ) -> Result<Option<Change<'a>>, AllocError>
-    ensures { IfOk result (λ c. option_map told_of c ≡
-        told opens (both_of pair.now).old (both_of pair.now).new
-        (is_some (blocked (map.get new.now) (shown_names pair.now.path.now)))) }
+    ensures { IfOk result (λ c. option_map told_of c ≡ pair_told opens new.now pair.now) }
 {
     let Some(node) = pair.new else {
         return gone(alloc, new, pair);
@@ -111,7 +106,7 @@ fn gone<'a>(
     pair: &Pair<'_, 'a>,
 ) -> Result<Option<Change<'a>>, AllocError>
     ensures { IfOk result (λ c. option_map told_of c ≡ told_gone (both_of pair.now).old
-        (is_some (blocked (map.get new.now) (shown_names pair.now.path.now)))) }
+        (is_below_gone new.now (path_of pair.now))) }
 {
     if pair.old.is_none() || is_below_gone(alloc, new, pair.path)? {
         return Ok(None);
@@ -121,7 +116,7 @@ fn gone<'a>(
 
 // Whether what is above a path is no directory in a tree.
 fn is_below_gone(alloc: Global, tree: &Tree, path: &[&NodeName]) -> Result<bool, AllocError>
-    ensures { IfOk result (λ b. b ≡ is_some (blocked (map.get tree.now) (shown_names path.now))) }
+    ensures { IfOk result (λ b. b ≡ is_below_gone tree.now (shown_names path.now)) }
 {
     let mut names = Vec::with_capacity(alloc, path.len())?;
     for name in path {
