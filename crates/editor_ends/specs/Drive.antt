@@ -1,5 +1,5 @@
 -- The calls that show a set of changes.
-use Rattle.std.specs.Prelude.{ℕ, Bool, false, not, List, [], ◌∷◌, ◌++◌, Option, Some, None, length, map, filter, reverse, if◌then◌else◌}
+use Rattle.std.specs.Prelude.{ℕ, Bool, true, false, not, List, [], ◌∷◌, ◌++◌, Option, Some, None, length, map, filter, reverse, if◌then◌else◌}
 use Rattle.std.specs.Option.{option_map_or, option_and_then}
 use Rattle.std.specs.FinMap as finite
 use Rattle.node_base.specs.Path.{Path, is_front}
@@ -15,7 +15,7 @@ use Rattle.dump_load.specs.Faults.{judged, is_file}
 use Rattle.delta_editor.specs.declared.call.Call.{Call}
 use Rattle.delta_editor.specs.declared.call.Call.TheVariants as call
 use Rattle.editor_ends.specs.Fronts.{above, fronts}
-use Rattle.editor_ends.specs.Parts.{parts}
+use Rattle.editor_ends.specs.Parts.{dir_parts, file_parts, parts}
 
 -- the revision before the one that is shown, which everything is known at
 abbrev pub base_number : List PathMap → Option ℕ
@@ -54,6 +54,14 @@ opening trees file c = opened c.action
 abbrev pub calls_with : List PathMap → Bool → PropMap → Change → List Call
 calls_with trees file old c = (if is_front c.path [] then [] else opening trees file c) ++ (if is_delete c.action then [] else parts file c old)
 
+-- the calls of a change that adds or changes a file, from its opening to its close
+abbrev pub file_calls : List PathMap → Change → PropMap → List Call
+file_calls trees c old = opening trees true c ++ file_parts c old
+
+-- and a directory, which stays open
+abbrev pub dir_calls : List PathMap → Change → PropMap → List Call
+dir_calls trees c old = opening trees false c ++ dir_parts c old
+
 abbrev pub change_calls : List PathMap → (Path → Option Node) → Change → List Call
 change_calls trees f c = calls_with trees (of_file trees f c) (old_props trees f c) c
 
@@ -77,6 +85,10 @@ abbrev pub walk : List PathMap → List Change → Path → List Change → List
 walk trees done at [] = closes at []
 walk trees done at (c ∷ s) =
     (closes at c.path ++ (opens trees at c.path ++ change_calls trees (effect trees done) c)) ++ walk trees (done ++ c ∷ []) (rests_at trees (effect trees done) c) s
+
+-- the calls that show a set as the revision after some trees, but for the end of the edit
+abbrev pub edit_calls : List PathMap → List Change → List Call
+edit_calls trees s = call.Target (length trees) ∷ call.OpenRoot (base_number trees) ∷ (walk trees [] [] s ++ call.CloseDir [] ∷ [])
 
 -- all calls that show a set as the revision after some trees
 abbrev pub drive : List PathMap → List Change → List Call

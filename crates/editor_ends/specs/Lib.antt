@@ -1,8 +1,10 @@
 pub mod Asked
 pub mod BuildFaults
 pub mod Builders
+pub mod Building
 pub mod Built
 pub mod Drive
+pub mod Driven
 pub mod Fronts
 pub mod Laws
 pub mod Parts

@@ -22,6 +22,14 @@ settings prop es = map (λ e. prop e.0 (Some e.1)) es
 abbrev pub prop_calls : (Name → Option (List ℕ) → Call) → PropMap → PropMap → List Call
 prop_calls prop old new = removals prop new (finite.entries old) ++ settings prop (finite.entries new)
 
+-- a removal for each name of the old map that the new one lacks
+abbrev pub removals_between : (Name → Option (List ℕ) → Call) → PropMap → PropMap → List Call
+removals_between prop old new = removals prop new (finite.entries old)
+
+-- a setting for each name of the new map
+abbrev pub settings_of : (Name → Option (List ℕ) → Call) → PropMap → List Call
+settings_of prop new = settings prop (finite.entries new)
+
 -- at most so many pieces of a text, each as long as a piece may be
 abbrev pub pieces_of : ℕ → List ℕ → List (List ℕ)
 pieces_of zero text = []
@@ -42,6 +50,18 @@ dir_parts c old = option_map_or (prop_calls (call.DirProp c.path) old) c.props [
 -- what a change gives an open file, which is closed then
 abbrev pub file_parts : Change → PropMap → List Call
 file_parts c old = option_map_or (prop_calls (call.FileProp c.path) old) c.props [] ++ (option_map_or (text_calls c.path) c.text [] ++ call.CloseFile c.path (option_map md5 c.text) ∷ [])
+
+-- the properties that a change gives an open file
+abbrev pub prop_parts : Change → PropMap → List Call
+prop_parts c old = option_map_or (prop_calls (call.FileProp c.path) old) c.props []
+
+-- and the text
+abbrev pub text_parts : Change → List Call
+text_parts c = option_map_or (text_calls c.path) c.text []
+
+-- both, while the file is open
+abbrev pub open_parts : Change → PropMap → List Call
+open_parts c old = prop_parts c old ++ text_parts c
 
 abbrev pub parts : Bool → Change → PropMap → List Call
 parts file c old = if file then file_parts c old else dir_parts c old

@@ -1,17 +1,14 @@
 //! An editor that makes a set of changes of what it is shown.
 ghost use Rattle.std.specs.Prelude.{◌≡◌, ◌≤◌, ◌||◌, length, not, true, false, Some, None, [], List};
-ghost use Rattle.std.specs.Prelude.{IsSome, IfOk, IfErr, OnOk};
+ghost use Rattle.std.specs.Prelude.{IsSome, IfOk};
 ghost use Rattle.std.specs.Option.{option_copied};
 ghost use Rattle.std.specs.FinMap as map;
 ghost use Rattle.node_base.specs.Tree.{PathMap};
 ghost use Rattle.node_base.specs.declared.limits.TheConstants.{REVISION};
-ghost use Rattle.delta_editor.specs.Nesting.{IsNested};
-ghost use Rattle.delta_editor.specs.declared.call.Call.{Call};
 ghost use Rattle.dump_load.specs.Changes.{is_add, is_delete, settles, IsNormal};
-ghost use Rattle.dump_load.specs.Trees.{Makes};
-ghost use Rattle.editor_ends.specs.BuildFaults.{begun, begin_fault};
-ghost use Rattle.editor_ends.specs.Built.{Made, Begins, IsFaultOr, IsSetOf, is_late_in};
-ghost use Rattle.editor_ends.specs.Builders.{has_shown, trees_of, set_within, built_over, is_made_of, text_at};
+ghost use Rattle.editor_ends.specs.BuildFaults.{begun};
+ghost use Rattle.editor_ends.specs.Builders.{has_shown, trees_of, set_within, text_at};
+ghost use Rattle.editor_ends.specs.Builders.{BeginsToBuild, IsSetFrom, MakesFrom, RefusesToBuild};
 
 use crate::building::{append_text, delete, new_change, open_or_add, put_prop, start_text};
 use crate::finish::finish;
@@ -61,8 +58,7 @@ impl<'a> Built<'a> {
     /// come to, where they say what these are.
     pub fn set(&self) -> &ChangeSet
         ensures within { result.now ≡ set_within self.now }
-        ensures built { (calls : List Call) → is_made_of self.now calls → IsNested calls
-            → IsSetOf (built_over self.now) result.now calls }
+        ensures built { IsSetFrom self.now result.now }
     {
         &self.set
     }
@@ -70,8 +66,7 @@ impl<'a> Built<'a> {
     /// The set of changes alone, of which the same holds.
     pub fn into_set(self) -> ChangeSet
         ensures within { result ≡ set_within self.entry }
-        ensures built { (calls : List Call) → is_made_of self.entry calls → IsNested calls
-            → IsSetOf (built_over self.entry) result calls }
+        ensures built { IsSetFrom self.entry result }
     {
         let Built {
             trees: _,
@@ -84,8 +79,7 @@ impl<'a> Built<'a> {
     /// The set with the tree that it makes, so that who commits it needn't apply it again.
     pub fn into_applied(self) -> Applied
         ensures within { result.set ≡ set_within self.entry }
-        ensures makes { (calls : List Call) → is_made_of self.entry calls → IsNested calls
-            → Makes (built_over self.entry) result.set result.tree }
+        ensures makes { MakesFrom self.entry result.set result.tree }
     {
         let Built {
             trees: _,
@@ -120,14 +114,11 @@ impl<'a> BuildEditor<'a> {
     ) -> Result<NodePath, EditorFault>
         requires known { (is_add action || not (settles action)) ≡ true }
         requires sourced { is_add action ≡ false → from ≡ None }
-        ensures begins { OnOk result (Made self.old.trees.now self.old.tree self.old.changes.items
-            → Begins self.old.trees.now self.old.tree self.old.changes.items self.new.tree self.new.changes.items
-            (begun action (Some kind) path.now (option_copied from.entry))) }
+        ensures begins { BeginsToBuild self.old self.new (begun action (Some kind) path.now (option_copied from.entry))
+            result }
         ensures baton { IfOk result (λ p. p ≡ path.now) }
-        ensures refused { IfErr result (λ e. Made self.old.trees.now self.old.tree self.old.changes.items
-            → IsFaultOr (begin_fault self.old.trees.now (map.get self.old.tree)
-            (is_late_in self.old.changes.items (begun action (Some kind) path.now (option_copied from.entry)))
-            (begun action (Some kind) path.now (option_copied from.entry))) e) }
+        ensures refused { RefusesToBuild self.old (begun action (Some kind) path.now (option_copied from.entry))
+            result }
         ensures over { trees_of self.new ≡ trees_of self.old }
     {
         let baton = path.copy(self.alloc)?;
@@ -144,7 +135,6 @@ impl<'a> BuildEditor<'a> {
 }
 
 impl<'a> Editor for BuildEditor<'a> {
-    ghost use Rattle.delta_editor.specs.declared.call.Call.{Call};
     ghost use Rattle.editor_ends.specs.BuildFaults.{RefusesWithin};
     ghost use Rattle.editor_ends.specs.Built.{BuildsWithin, IsBuiltOf};
 

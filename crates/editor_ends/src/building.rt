@@ -1,24 +1,25 @@
 //! The changes that calls begin and give parts to, in path order beside the tree that they make.
 ghost use Rattle.std.specs.Prelude.{◌≡◌, ◌≤◌, ◌<◌, ◌||◌, length, true, false, not, Some, None};
-ghost use Rattle.std.specs.Prelude.{IsSome, IfOk, IfErr, IfSome, OnOk, [], List, ◌&&◌};
-ghost use Rattle.std.specs.Option.{option_copied, option_map, option_map_or};
+ghost use Rattle.std.specs.Prelude.{IsSome, IfOk, IfErr, IfSome, OnOk, [], ◌&&◌};
+ghost use Rattle.std.specs.Option.{option_copied, option_map};
 ghost use Rattle.std.specs.FinMap as map;
 ghost use Rattle.std.specs.List.{slice_get};
-ghost use Rattle.node_base.specs.Path.{Path, same_path, is_front};
+ghost use Rattle.node_base.specs.Path.{same_path};
 ghost use Rattle.node_base.specs.NodeEdits.{with_prop, with_piece};
-ghost use Rattle.node_base.specs.Tree.{PathMap, with_given};
+ghost use Rattle.node_base.specs.Tree.{with_given};
 ghost use Rattle.path_tree.specs.Calls.{text_fault};
 ghost use Rattle.path_tree.specs.NodeCalls.{piece_fault};
-ghost use Rattle.dump_load.specs.declared.change.Change.{Change as ChangeOf};
 ghost use Rattle.dump_load.specs.Changes.{settles, is_delete, is_add, IsWhole, IsNormal};
-ghost use Rattle.dump_load.specs.Effect.{stepped};
 ghost use Rattle.dump_load.specs.Faults.{fault_of, fault_if};
 ghost use Rattle.delta_editor.specs.declared.fault.EditorFault.TheVariants.{TooLong};
 ghost use Rattle.node_base.specs.declared.node.Action.TheVariants.{Replace};
 ghost use Rattle.delta_editor.specs.Faults.{refused};
-ghost use Rattle.editor_ends.specs.BuildFaults.{begun, begin_fault, blank_text, is_long, put_fault};
-ghost use Rattle.editor_ends.specs.Built.{Made, Begins, Gives, IsFresh, IsFaultOr, Placed, is_late_in, is_taken};
+ghost use Rattle.editor_ends.specs.BuildFaults.{begun, blank_text, is_long, put_fault};
+ghost use Rattle.editor_ends.specs.Building.{BeginsChange, FindsOpen, GivesPart, IsStepped, RefusesChange};
+ghost use Rattle.editor_ends.specs.Building.{RefusesPart, RefusesToMake};
+ghost use Rattle.editor_ends.specs.Built.{IsFresh, IsFaultOr, Placed, is_taken};
 ghost use Rattle.editor_ends.specs.Built.{giving_props, giving_text, told};
+ghost use Rattle.editor_ends.specs.Shown.{is_under};
 
 use delta_editor::EditorFault;
 use dump_load::{Change, fault_of, is_add, is_delete, settles, step};
@@ -92,11 +93,9 @@ fn place_of(changes: &[Change], path: &NodePath) -> Result<usize, usize>
 // Makes a change of the tree where it has no fault there.
 fn make(alloc: Global, trees: &[Tree], tree: &mut Tree, change: &Change) -> Result<(), EditorFault>
     requires whole { IsWhole change.now }
-    ensures made { OnOk result ((q : Path)
-        → map.get tree.new q ≡ stepped trees.now (map.get tree.old) change.now q) }
+    ensures made { OnOk result (IsStepped trees.now tree.old tree.new change.now) }
     ensures faultless { OnOk result (fault_of trees.now (map.get tree.old) change.now ≡ None) }
-    ensures refused { IfErr result (λ e. length trees.now ≤ REVISION
-        → IsFaultOr (option_map refused (fault_of trees.now (map.get tree.old) change.now)) e) }
+    ensures refused { RefusesToMake trees.now tree.old change.now result }
 {
     if trees.len() > REVISION as usize {
         return Err(EditorFault::WrongNumber);
@@ -125,10 +124,8 @@ pub fn open_or_add(
     requires whole { IsWhole change }
     requires fresh { IsFresh change }
     requires known { (is_add change.action || not (settles change.action)) ≡ true }
-    ensures begins { OnOk result (Made trees.now tree.old changes.old.items
-        → Begins trees.now tree.old changes.old.items tree.new changes.new.items change) }
-    ensures refused { IfErr result (λ e. Made trees.now tree.old changes.old.items
-        → IsFaultOr (begin_fault trees.now (map.get tree.old) (is_late_in changes.old.items change) change) e) }
+    ensures begins { BeginsChange trees.now tree.old tree.new changes.old.items changes.new.items change result }
+    ensures refused { RefusesChange trees.now tree.old changes.old.items change result }
 {
     if is_root_settled(&change) {
         return Err(EditorFault::BadPath);
@@ -169,10 +166,8 @@ pub fn delete(
     requires whole { IsWhole change }
     requires fresh { IsFresh change }
     requires deletes { is_delete change.action ≡ true }
-    ensures begins { OnOk result (Made trees.now tree.old changes.old.items
-        → Begins trees.now tree.old changes.old.items tree.new changes.new.items change) }
-    ensures refused { IfErr result (λ e. Made trees.now tree.old changes.old.items
-        → IsFaultOr (begin_fault trees.now (map.get tree.old) (is_late_in changes.old.items change) change) e) }
+    ensures begins { BeginsChange trees.now tree.old tree.new changes.old.items changes.new.items change result }
+    ensures refused { RefusesChange trees.now tree.old changes.old.items change result }
 {
     if is_root_settled(&change) {
         return Err(EditorFault::BadPath);
@@ -200,7 +195,7 @@ pub fn delete(
 
 // Whether the change at a place is below a path.
 fn is_next_below(changes: &[Change], at: usize, path: &NodePath) -> bool
-    ensures { result ≡ option_map_or (λ (c : ChangeOf). is_front path.now c.path) (slice_get changes.now at) false }
+    ensures { result ≡ is_under changes.now at path.now }
 {
     if at >= changes.len() {
         return false;
@@ -211,8 +206,7 @@ fn is_next_below(changes: &[Change], at: usize, path: &NodePath) -> bool
 // Where the change of what is open stands.
 fn place_open(changes: &[Change], path: &NodePath) -> Option<usize>
     ensures found { IfSome result (λ i. i < length changes.now) }
-    ensures placed { IfSome result (λ i. IsNormal changes.now → (c : ChangeOf) → slice_get changes.now i ≡ Some c
-        → c.path ≡ path.now) }
+    ensures placed { FindsOpen changes.now path.now result }
     ensures stands { IfSome result (λ i. IfSome (slice_get changes.now i) (λ c. is_delete c.action ≡ false)) }
     ensures none { result ≡ None → IsNormal changes.now → is_taken changes.now path.now ≡ false }
 {
@@ -262,13 +256,12 @@ pub fn put_prop(
     name: &PropName,
     value: Option<&[u8]>,
 ) -> Result<(), EditorFault>
-    ensures gives { OnOk result ((trees : List PathMap) → Made trees tree.old changes.old.items
-        → Gives trees tree.old changes.old.items tree.new changes.new.items path.now
-        (with_prop name.now (option_map (λ b. b.now) value.entry)) giving_props) }
+    ensures gives { GivesPart tree.old tree.new changes.old.items changes.new.items path.now
+        (with_prop name.now (option_map (λ b. b.now) value.entry)) giving_props result }
     ensures faultless { OnOk result
         (put_fault (map.get tree.old) path.now name.now (option_map (λ b. b.now) value.entry) ≡ None) }
-    ensures refused { IfErr result (λ e. IsNormal changes.old.items → is_taken changes.old.items path.now ≡ true
-        → IsFaultOr (put_fault (map.get tree.old) path.now name.now (option_map (λ b. b.now) value.entry)) e) }
+    ensures refused { RefusesPart changes.old.items path.now (put_fault (map.get tree.old) path.now name.now
+        (option_map (λ b. b.now) value.entry)) result }
 {
     let Some(at) = place_open(changes, path) else {
         return Err(EditorFault::NoSuchPath);
@@ -309,12 +302,11 @@ pub fn start_text(
     changes: &mut Vec<Change>,
     path: &NodePath,
 ) -> Result<(), EditorFault>
-    ensures gives { OnOk result ((trees : List PathMap) → Made trees tree.old changes.old.items
-        → Gives trees tree.old changes.old.items tree.new changes.new.items path.now
-        (with_given (Some []) None) giving_text) }
+    ensures gives { GivesPart tree.old tree.new changes.old.items changes.new.items path.now
+        (with_given (Some []) None) giving_text result }
     ensures faultless { OnOk result (text_fault (map.get tree.old) path.now ≡ None) }
-    ensures refused { IfErr result (λ e. IsNormal changes.old.items → is_taken changes.old.items path.now ≡ true
-        → IsFaultOr (option_map refused (text_fault (map.get tree.old) path.now)) e) }
+    ensures refused { RefusesPart changes.old.items path.now (option_map refused
+        (text_fault (map.get tree.old) path.now)) result }
 {
     let Some(at) = place_open(changes, path) else {
         return Err(EditorFault::NoSuchPath);
@@ -335,12 +327,11 @@ pub fn append_text(
     path: &NodePath,
     piece: &[u8],
 ) -> Result<(), EditorFault>
-    ensures gives { OnOk result ((trees : List PathMap) → Made trees tree.old changes.old.items
-        → Gives trees tree.old changes.old.items tree.new changes.new.items path.now
-        (with_piece piece.now) giving_text) }
+    ensures gives { GivesPart tree.old tree.new changes.old.items changes.new.items path.now
+        (with_piece piece.now) giving_text result }
     ensures faultless { OnOk result (piece_fault (map.get tree.old) path.now piece.now ≡ None) }
-    ensures refused { IfErr result (λ e. IsNormal changes.old.items → is_taken changes.old.items path.now ≡ true
-        → IsFaultOr (option_map refused (piece_fault (map.get tree.old) path.now piece.now)) e) }
+    ensures refused { RefusesPart changes.old.items path.now (option_map refused
+        (piece_fault (map.get tree.old) path.now piece.now)) result }
 {
     let Some(at) = place_open(changes, path) else {
         return Err(EditorFault::NoSuchPath);

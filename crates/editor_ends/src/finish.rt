@@ -1,10 +1,8 @@
 //! The set that the changes of an edit come to.
-ghost use Rattle.std.specs.Prelude.{◌≡◌, ◌++◌, ◌∷◌, List, IfOk, IfErr, OnOk};
+ghost use Rattle.std.specs.Prelude.{◌≡◌, IfOk, OnOk};
 ghost use Rattle.std.specs.FinMap as map;
-ghost use Rattle.node_base.specs.Tree.{PathMap};
-ghost use Rattle.dump_load.specs.declared.change.Change.{Change as ChangeOf};
-ghost use Rattle.dump_load.specs.Changes.{IsNormal};
-ghost use Rattle.editor_ends.specs.Built.{Made, Keeps, IsLean, IsSetOver, IsFinishRefusal, filled, is_idle};
+ghost use Rattle.editor_ends.specs.Building.{FinishesAs, KeepsLean, KeepsOn, RefusesToFinish};
+ghost use Rattle.editor_ends.specs.Built.{filled, is_idle};
 
 use delta_editor::EditorFault;
 use dump_load::{Change, ChangeSet, settles};
@@ -43,11 +41,8 @@ fn is_idle(change: &Change, next: &Change) -> bool
 
 // The next change, in the place of the one before it where that only led to it.
 fn keep(kept: &mut Vec<Change>, change: Change) -> Result<(), AllocError>
-    ensures keeps { OnOk result ((trees : List PathMap) (rest : List ChangeOf)
-        → IsNormal (kept.old.items ++ change ∷ rest)
-        → Keeps trees (kept.old.items ++ change ∷ rest) (kept.new.items ++ rest)) }
-    ensures lean { OnOk result ((rest : List ChangeOf) → IsNormal (kept.old.items ++ change ∷ rest)
-        → IsLean kept.old.items → IsLean kept.new.items) }
+    ensures keeps { OnOk result (KeepsOn kept.old.items kept.new.items change) }
+    ensures lean { OnOk result (KeepsLean kept.old.items kept.new.items change) }
 {
     let Some(last) = kept.pop() else {
         kept.push(change)?;
@@ -65,10 +60,8 @@ fn keep(kept: &mut Vec<Change>, change: Change) -> Result<(), AllocError>
 /// The set of changes in path order, with what they gave as the tree has it, and without those that only led to
 /// others. Refused: more than 4,096 changes (8).
 pub fn finish(alloc: Global, tree: &Tree, changes: Vec<Change>) -> Result<ChangeSet, EditorFault>
-    ensures set { IfOk result (λ s. (trees : List PathMap) → Made trees tree.now changes.items
-        → IsSetOver trees (map.get tree.now) changes.items s) }
-    ensures refused { IfErr result (λ e. (trees : List PathMap) → Made trees tree.now changes.items
-        → IsFinishRefusal trees (map.get tree.now) changes.items e) }
+    ensures set { FinishesAs tree.now changes.items result }
+    ensures refused { RefusesToFinish tree.now changes.items result }
 {
     let mut kept: Vec<Change> = Vec::with_capacity(alloc, changes.len())?;
     for change in changes {

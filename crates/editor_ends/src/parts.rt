@@ -1,14 +1,12 @@
 //! What is shown of one change.
-ghost use Rattle.std.specs.Prelude.{◌≡◌, ◌≤◌, ◌++◌, [], true, false, length, IfOk, IfErr, OnOk};
-ghost use Rattle.std.specs.Option.{option_map_or, option_copied};
+ghost use Rattle.std.specs.Prelude.{◌≡◌, ◌≤◌, true, false, length, IfOk};
+ghost use Rattle.std.specs.Option.{option_copied};
 ghost use Rattle.node_base.specs.declared.limits.TheConstants.{REVISION};
-ghost use Rattle.delta_editor.specs.Calls.{Adds};
-ghost use Rattle.delta_editor.specs.declared.call.Call.TheVariants as call;
 ghost use Rattle.dump_load.specs.Changes.{is_delete};
-ghost use Rattle.editor_ends.specs.Drive.{base_number, opening};
+ghost use Rattle.editor_ends.specs.Drive.{base_number, opening, dir_calls, file_calls};
+ghost use Rattle.editor_ends.specs.Driven.{Drives, StopsAmong};
 ghost use Rattle.editor_ends.specs.Fronts.{above};
-ghost use Rattle.editor_ends.specs.Parts.{prop_calls, text_calls, dir_parts, file_parts};
-ghost use Rattle.editor_ends.specs.Shown.{Stops};
+ghost use Rattle.editor_ends.specs.Parts.{open_parts};
 
 use crate::props::{give_dir, give_file_props};
 use crate::text::{give_text, sum_of};
@@ -44,8 +42,8 @@ fn open_file<E: Editor>(
     requires few { length trees.now ≤ REVISION }
     requires up { E.dir_path up.old ≡ above change.now.path }
     requires stays { is_delete change.now.action ≡ false }
-    ensures shown { OnOk result (Adds E.shows editor.old editor.new (opening trees.now true change.now)) }
-    ensures stops { IfErr result (Stops E.shows E.began E.refuses editor.old (opening trees.now true change.now)) }
+    ensures shown { Drives E.Editor editor.old editor.new (opening trees.now true change.now) result }
+    ensures stops { StopsAmong E.Editor editor.old (opening trees.now true change.now) result }
     ensures baton { IfOk result (λ f. E.file_path f ≡ change.now.path) }
     ensures up { E.dir_path up.new ≡ E.dir_path up.old }
     ensures began { E.began editor.new ≡ E.began editor.old }
@@ -73,8 +71,8 @@ fn open_dir<E: Editor>(
     requires few { length trees.now ≤ REVISION }
     requires up { E.dir_path up.old ≡ above change.now.path }
     requires stays { is_delete change.now.action ≡ false }
-    ensures shown { OnOk result (Adds E.shows editor.old editor.new (opening trees.now false change.now)) }
-    ensures stops { IfErr result (Stops E.shows E.began E.refuses editor.old (opening trees.now false change.now)) }
+    ensures shown { Drives E.Editor editor.old editor.new (opening trees.now false change.now) result }
+    ensures stops { StopsAmong E.Editor editor.old (opening trees.now false change.now) result }
     ensures baton { IfOk result (λ d. E.dir_path d ≡ change.now.path) }
     ensures up { E.dir_path up.new ≡ E.dir_path up.old }
     ensures began { E.began editor.new ≡ E.began editor.old }
@@ -100,14 +98,8 @@ fn give_file<E: Editor>(
     old: &Props,
 ) -> Result<(), EditorFault>
     requires { E.file_path file.old ≡ change.now.path }
-    ensures shown { OnOk result
-        (Adds E.shows editor.old editor.new
-        (option_map_or (prop_calls (call.FileProp change.now.path) old.now) change.now.props []
-        ++ option_map_or (text_calls change.now.path) change.now.text [])) }
-    ensures stops { IfErr result
-        (Stops E.shows E.began E.refuses editor.old
-        (option_map_or (prop_calls (call.FileProp change.now.path) old.now) change.now.props []
-        ++ option_map_or (text_calls change.now.path) change.now.text [])) }
+    ensures shown { Drives E.Editor editor.old editor.new (open_parts change.now old.now) result }
+    ensures stops { StopsAmong E.Editor editor.old (open_parts change.now old.now) result }
     ensures baton { E.file_path file.new ≡ E.file_path file.old }
     ensures began { E.began editor.new ≡ E.began editor.old }
 {
@@ -126,11 +118,8 @@ pub fn show_file<E: Editor>(
     requires few { length trees.now ≤ REVISION }
     requires up { E.dir_path up.old ≡ above change.now.path }
     requires stays { is_delete change.now.action ≡ false }
-    ensures shown { OnOk result
-        (Adds E.shows editor.old editor.new (opening trees.now true change.now ++ file_parts change.now old.now)) }
-    ensures stops { IfErr result
-        (Stops E.shows E.began E.refuses editor.old
-        (opening trees.now true change.now ++ file_parts change.now old.now)) }
+    ensures shown { Drives E.Editor editor.old editor.new (file_calls trees.now change.now old.now) result }
+    ensures stops { StopsAmong E.Editor editor.old (file_calls trees.now change.now old.now) result }
     ensures up { E.dir_path up.new ≡ E.dir_path up.old }
     ensures began { E.began editor.new ≡ E.began editor.old }
 {
@@ -155,11 +144,8 @@ pub fn show_dir<E: Editor>(
     requires few { length trees.now ≤ REVISION }
     requires up { E.dir_path up.old ≡ above change.now.path }
     requires stays { is_delete change.now.action ≡ false }
-    ensures shown { OnOk result
-        (Adds E.shows editor.old editor.new (opening trees.now false change.now ++ dir_parts change.now old.now)) }
-    ensures stops { IfErr result
-        (Stops E.shows E.began E.refuses editor.old
-        (opening trees.now false change.now ++ dir_parts change.now old.now)) }
+    ensures shown { Drives E.Editor editor.old editor.new (dir_calls trees.now change.now old.now) result }
+    ensures stops { StopsAmong E.Editor editor.old (dir_calls trees.now change.now old.now) result }
     ensures baton { IfOk result (λ d. E.dir_path d ≡ change.now.path) }
     ensures up { E.dir_path up.new ≡ E.dir_path up.old }
     ensures began { E.began editor.new ≡ E.began editor.old }

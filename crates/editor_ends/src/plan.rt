@@ -1,14 +1,13 @@
 //! What has to be known of a change before it is made.
 ghost use Rattle.std.specs.Prelude.{◌≡◌, ◌≤◌, ◌<◌, ◌+◌, ◌∷◌, [], length, Some, None, false};
 ghost use Rattle.std.specs.Prelude.{IfOk, IfErr, OnOk};
-ghost use Rattle.std.specs.List.{slice_get};
 ghost use Rattle.std.specs.FinMap as map;
 ghost use Rattle.node_base.specs.declared.limits.TheConstants.{REVISION};
 ghost use Rattle.dump_load.specs.declared.change.Change.{Change};
 ghost use Rattle.dump_load.specs.Changes.{IsNormal};
 ghost use Rattle.dump_load.specs.Faults.{fault_of};
-ghost use Rattle.dump_load.specs.Walk.{Walked};
 ghost use Rattle.editor_ends.specs.Drive.{of_file, old_props};
+ghost use Rattle.editor_ends.specs.Driven.{IsFaultless, IsWalked, Plans};
 ghost use Rattle.editor_ends.specs.Shown.{IsOwn};
 
 use crate::progress::{Progress, Revision};
@@ -59,15 +58,11 @@ pub fn advance(revision: &Revision<'_>, progress: &mut Progress) -> Result<Plan,
     requires few { length revision.now.trees.now ≤ REVISION }
     requires normal { IsNormal revision.now.set.now }
     requires here { progress.old.next < length revision.now.set.now }
-    requires walked { Walked revision.now.trees.now revision.now.set.now progress.old.next progress.old.tree }
-    ensures walked { OnOk result
-        (Walked revision.now.trees.now revision.now.set.now progress.new.next progress.new.tree) }
+    requires walked { IsWalked revision.now progress.old }
+    ensures walked { OnOk result (IsWalked revision.now progress.new) }
     ensures next { OnOk result (progress.new.next ≡ progress.old.next + 1) }
-    ensures plan { IfOk result (λ p. (c : Change) → slice_get revision.now.set.now progress.old.next ≡ Some c
-        → (p.file ≡ of_file revision.now.trees.now (map.get progress.old.tree) c)
-        × (p.old ≡ old_props revision.now.trees.now (map.get progress.old.tree) c)) }
-    ensures faultless { OnOk result ((c : Change) → slice_get revision.now.set.now progress.old.next ≡ Some c
-        → fault_of revision.now.trees.now (map.get progress.old.tree) c ≡ None) }
+    ensures plan { Plans revision.now progress.old result }
+    ensures faultless { OnOk result (IsFaultless revision.now progress.old) }
     ensures own { IfErr result (IsOwn revision.now.trees.now revision.now.set.now) }
 {
     let trees = revision.trees;

@@ -1,11 +1,8 @@
 //! The calls that give properties.
-ghost use Rattle.std.specs.Prelude.{◌≡◌, ◌++◌, [], OnOk, IfErr};
-ghost use Rattle.std.specs.Option.{option_map_or};
-ghost use Rattle.std.specs.FinMap as map;
-ghost use Rattle.delta_editor.specs.Calls.{Adds};
+ghost use Rattle.std.specs.Prelude.{◌≡◌, ◌++◌};
 ghost use Rattle.delta_editor.specs.declared.call.Call.TheVariants as call;
-ghost use Rattle.editor_ends.specs.Parts.{removals, settings, prop_calls, dir_parts};
-ghost use Rattle.editor_ends.specs.Shown.{Stops};
+ghost use Rattle.editor_ends.specs.Driven.{Drives, StopsAmong};
+ghost use Rattle.editor_ends.specs.Parts.{prop_calls, dir_parts, prop_parts, removals_between, settings_of};
 
 use delta_editor::{Editor, EditorFault};
 use dump_load::Change;
@@ -18,12 +15,10 @@ fn unset_dir<E: Editor>(
     old: &Props,
     new: &Props,
 ) -> Result<(), EditorFault>
-    ensures shown { OnOk result
-        (Adds E.shows editor.old editor.new
-        (removals (call.DirProp (E.dir_path dir.old)) new.now (map.entries old.now))) }
-    ensures stops { IfErr result
-        (Stops E.shows E.began E.refuses editor.old
-        (removals (call.DirProp (E.dir_path dir.old)) new.now (map.entries old.now))) }
+    ensures shown { Drives E.Editor editor.old editor.new (removals_between
+        (call.DirProp (E.dir_path dir.old)) old.now new.now) result }
+    ensures stops { StopsAmong E.Editor editor.old (removals_between
+        (call.DirProp (E.dir_path dir.old)) old.now new.now) result }
     ensures baton { E.dir_path dir.new ≡ E.dir_path dir.old }
     ensures began { E.began editor.new ≡ E.began editor.old }
 {
@@ -39,11 +34,9 @@ fn unset_dir<E: Editor>(
 
 // Gives a directory each of the new properties.
 fn set_dir<E: Editor>(editor: &mut E, dir: &mut E::Dir, new: &Props) -> Result<(), EditorFault>
-    ensures shown { OnOk result
-        (Adds E.shows editor.old editor.new (settings (call.DirProp (E.dir_path dir.old)) (map.entries new.now))) }
-    ensures stops { IfErr result
-        (Stops E.shows E.began E.refuses editor.old
-        (settings (call.DirProp (E.dir_path dir.old)) (map.entries new.now))) }
+    ensures shown { Drives E.Editor editor.old editor.new (settings_of (call.DirProp (E.dir_path dir.old)) new.now)
+        result }
+    ensures stops { StopsAmong E.Editor editor.old (settings_of (call.DirProp (E.dir_path dir.old)) new.now) result }
     ensures baton { E.dir_path dir.new ≡ E.dir_path dir.old }
     ensures began { E.began editor.new ≡ E.began editor.old }
 {
@@ -61,12 +54,10 @@ fn unset_file<E: Editor>(
     old: &Props,
     new: &Props,
 ) -> Result<(), EditorFault>
-    ensures shown { OnOk result
-        (Adds E.shows editor.old editor.new
-        (removals (call.FileProp (E.file_path file.old)) new.now (map.entries old.now))) }
-    ensures stops { IfErr result
-        (Stops E.shows E.began E.refuses editor.old
-        (removals (call.FileProp (E.file_path file.old)) new.now (map.entries old.now))) }
+    ensures shown { Drives E.Editor editor.old editor.new (removals_between
+        (call.FileProp (E.file_path file.old)) old.now new.now) result }
+    ensures stops { StopsAmong E.Editor editor.old (removals_between
+        (call.FileProp (E.file_path file.old)) old.now new.now) result }
     ensures baton { E.file_path file.new ≡ E.file_path file.old }
     ensures began { E.began editor.new ≡ E.began editor.old }
 {
@@ -82,11 +73,9 @@ fn unset_file<E: Editor>(
 
 // Gives a file each of the new properties.
 fn set_file<E: Editor>(editor: &mut E, file: &mut E::File, new: &Props) -> Result<(), EditorFault>
-    ensures shown { OnOk result
-        (Adds E.shows editor.old editor.new (settings (call.FileProp (E.file_path file.old)) (map.entries new.now))) }
-    ensures stops { IfErr result
-        (Stops E.shows E.began E.refuses editor.old
-        (settings (call.FileProp (E.file_path file.old)) (map.entries new.now))) }
+    ensures shown { Drives E.Editor editor.old editor.new (settings_of (call.FileProp (E.file_path file.old)) new.now)
+        result }
+    ensures stops { StopsAmong E.Editor editor.old (settings_of (call.FileProp (E.file_path file.old)) new.now) result }
     ensures baton { E.file_path file.new ≡ E.file_path file.old }
     ensures began { E.began editor.new ≡ E.began editor.old }
 {
@@ -104,10 +93,10 @@ fn reset_dir<E: Editor>(
     old: &Props,
     new: &Props,
 ) -> Result<(), EditorFault>
-    ensures shown { OnOk result
-        (Adds E.shows editor.old editor.new (prop_calls (call.DirProp (E.dir_path dir.old)) old.now new.now)) }
-    ensures stops { IfErr result
-        (Stops E.shows E.began E.refuses editor.old (prop_calls (call.DirProp (E.dir_path dir.old)) old.now new.now)) }
+    ensures shown { Drives E.Editor editor.old editor.new (prop_calls
+        (call.DirProp (E.dir_path dir.old)) old.now new.now) result }
+    ensures stops { StopsAmong E.Editor editor.old (prop_calls (call.DirProp (E.dir_path dir.old)) old.now new.now)
+        result }
     ensures baton { E.dir_path dir.new ≡ E.dir_path dir.old }
     ensures began { E.began editor.new ≡ E.began editor.old }
 {
@@ -122,11 +111,10 @@ fn reset_file<E: Editor>(
     old: &Props,
     new: &Props,
 ) -> Result<(), EditorFault>
-    ensures shown { OnOk result
-        (Adds E.shows editor.old editor.new (prop_calls (call.FileProp (E.file_path file.old)) old.now new.now)) }
-    ensures stops { IfErr result
-        (Stops E.shows E.began E.refuses editor.old
-        (prop_calls (call.FileProp (E.file_path file.old)) old.now new.now)) }
+    ensures shown { Drives E.Editor editor.old editor.new (prop_calls
+        (call.FileProp (E.file_path file.old)) old.now new.now) result }
+    ensures stops { StopsAmong E.Editor editor.old (prop_calls (call.FileProp (E.file_path file.old)) old.now new.now)
+        result }
     ensures baton { E.file_path file.new ≡ E.file_path file.old }
     ensures began { E.began editor.new ≡ E.began editor.old }
 {
@@ -142,8 +130,8 @@ pub fn give_dir<E: Editor>(
     old: &Props,
 ) -> Result<(), EditorFault>
     requires { E.dir_path dir.old ≡ change.now.path }
-    ensures shown { OnOk result (Adds E.shows editor.old editor.new (dir_parts change.now old.now)) }
-    ensures stops { IfErr result (Stops E.shows E.began E.refuses editor.old (dir_parts change.now old.now)) }
+    ensures shown { Drives E.Editor editor.old editor.new (dir_parts change.now old.now) result }
+    ensures stops { StopsAmong E.Editor editor.old (dir_parts change.now old.now) result }
     ensures baton { E.dir_path dir.new ≡ E.dir_path dir.old }
     ensures began { E.began editor.new ≡ E.began editor.old }
 {
@@ -161,12 +149,8 @@ pub fn give_file_props<E: Editor>(
     old: &Props,
 ) -> Result<(), EditorFault>
     requires { E.file_path file.old ≡ change.now.path }
-    ensures shown { OnOk result
-        (Adds E.shows editor.old editor.new
-        (option_map_or (prop_calls (call.FileProp change.now.path) old.now) change.now.props [])) }
-    ensures stops { IfErr result
-        (Stops E.shows E.began E.refuses editor.old
-        (option_map_or (prop_calls (call.FileProp change.now.path) old.now) change.now.props [])) }
+    ensures shown { Drives E.Editor editor.old editor.new (prop_parts change.now old.now) result }
+    ensures stops { StopsAmong E.Editor editor.old (prop_parts change.now old.now) result }
     ensures baton { E.file_path file.new ≡ E.file_path file.old }
     ensures began { E.began editor.new ≡ E.began editor.old }
 {

@@ -1,22 +1,21 @@
 //! A set of changes, shown to an editor.
-ghost use Rattle.std.specs.Prelude.{◌≡◌, ◌≤◌, ◌<◌, ◌++◌, ◌∷◌, [], Some, None, length, false};
-ghost use Rattle.std.specs.Prelude.{IfOk, IfErr, IsOk, MatchOption, OnOk};
-ghost use Rattle.node_base.specs.Path.{Path, is_front};
+ghost use Rattle.std.specs.Prelude.{◌≡◌, ◌≤◌, ◌<◌, [], Some, None, length, false};
+ghost use Rattle.std.specs.Prelude.{IfOk, IfErr, IsOk, OnOk};
+ghost use Rattle.node_base.specs.Path.{is_front};
 ghost use Rattle.node_base.specs.Limits.{fits};
 ghost use Rattle.node_base.specs.declared.limits.TheConstants.{REVISION};
-ghost use Rattle.delta_editor.specs.Calls.{Adds};
-ghost use Rattle.delta_editor.specs.declared.call.Call.TheVariants as call;
 ghost use Rattle.delta_editor.specs.declared.fault.EditorFault.TheVariants.{OutOfMemory};
 ghost use Rattle.dump_load.specs.Changes.{IsNormal};
 ghost use Rattle.dump_load.specs.Effect.{effect};
 ghost use Rattle.dump_load.specs.Faults.{fault};
-ghost use Rattle.delta_editor.specs.CallEffect.{call_effect};
-ghost use Rattle.dump_load.specs.Walk.{Walked};
-ghost use Rattle.editor_ends.specs.Drive.{base_number, calls_with, rests_with, walk};
+ghost use Rattle.editor_ends.specs.Drive.{edit_calls};
 ghost use Rattle.editor_ends.specs.Drive as calls;
+ghost use Rattle.editor_ends.specs.Driven.{Drives, Enters, FindsChild, GoesOn, HaltsAmong, HaltsFrom, HaltsInDrive};
+ghost use Rattle.editor_ends.specs.Driven.{IsWalked, KeepsEffect, LeavesLater, MovesOn, RestsWith, StopsAmong};
+ghost use Rattle.editor_ends.specs.Driven.{inner_calls, planned_calls};
 ghost use Rattle.editor_ends.specs.Fronts.{above};
 ghost use Rattle.editor_ends.specs.Refusals.{IsDriveRefusal};
-ghost use Rattle.editor_ends.specs.Shown.{Shown, Stops, Halts, left, is_under, IsLater, IsNext, Entered};
+ghost use Rattle.editor_ends.specs.Shown.{is_under, IsLater, IsNext};
 
 use crate::parts::{base_of, show_dir, show_file};
 use crate::plan::{Plan, advance};
@@ -39,13 +38,9 @@ fn show_change<E: Editor>(
     requires few { length trees.now ≤ REVISION }
     requires up { E.dir_path up.old ≡ above change.now.path }
     requires below_root { is_front change.now.path [] ≡ false }
-    ensures shown { OnOk result
-        (Adds E.shows editor.old editor.new (calls_with trees.now plan.now.file plan.now.old change.now)) }
-    ensures stops { IfErr result
-        (Stops E.shows E.began E.refuses editor.old (calls_with trees.now plan.now.file plan.now.old change.now)) }
-    ensures rests { IfOk result (λ o. MatchOption o (rests_with plan.now.file change.now
-        ≡ above change.now.path) (λ d. (E.dir_path d ≡ change.now.path)
-        × (rests_with plan.now.file change.now ≡ change.now.path))) }
+    ensures shown { Drives E.Editor editor.old editor.new (planned_calls trees.now plan.now change.now) result }
+    ensures stops { StopsAmong E.Editor editor.old (planned_calls trees.now plan.now change.now) result }
+    ensures rests { RestsWith E.Editor plan.now.file change.now result }
     ensures up { E.dir_path up.new ≡ E.dir_path up.old }
     ensures began { E.began editor.new ≡ E.began editor.old }
 {
@@ -72,23 +67,16 @@ fn enter<E: Editor>(
     requires few { length revision.now.trees.now ≤ REVISION }
     requires normal { IsNormal revision.now.set.now }
     requires here { progress.old.next < length revision.now.set.now }
-    requires walked { Walked revision.now.trees.now revision.now.set.now progress.old.next progress.old.tree }
+    requires walked { IsWalked revision.now progress.old }
     requires child { IsNext revision.now.set.now progress.old.next (E.dir_path up.old) path.now }
-    ensures walked { OnOk result
-        (Walked revision.now.trees.now revision.now.set.now progress.new.next progress.new.tree) }
+    ensures walked { OnOk result (IsWalked revision.now progress.new) }
     ensures within { OnOk result (progress.new.next ≤ length revision.now.set.now) }
-    ensures moved { IfOk result
-        (λ o. MatchOption o (progress.old.next < progress.new.next) (λ _. progress.old.next ≤ progress.new.next)) }
-    ensures later { IfOk result (λ o. MatchOption o (E.dir_path up.old
-        ≡ E.dir_path up.old) (λ _. IsLater revision.now.set.now progress.new.next path.now)) }
+    ensures moved { MovesOn progress.old progress.new result }
+    ensures later { LeavesLater revision.now progress.new (E.dir_path up.old) path.now result }
     ensures up { E.dir_path up.new ≡ E.dir_path up.old }
-    ensures shown { IfOk result
-        (Entered E.shows E.dir_path editor.old editor.new
-        (left revision.now.trees.now revision.now.set.now progress.old.next (E.dir_path up.old))
-        (left revision.now.trees.now revision.now.set.now progress.new.next) (E.dir_path up.old) path.now) }
-    ensures halts { IfErr result
-        (Halts E.shows E.began E.refuses revision.now.trees.now revision.now.set.now editor.old
-        (left revision.now.trees.now revision.now.set.now progress.old.next (E.dir_path up.old))) }
+    ensures shown { Enters E.Editor revision.now progress.old progress.new editor.old editor.new
+        (E.dir_path up.old) path.now result }
+    ensures halts { HaltsFrom E.Editor revision.now progress.old editor.old (E.dir_path up.old) result }
     ensures began { E.began editor.new ≡ E.began editor.old }
 {
     let set = revision.set;
@@ -108,8 +96,7 @@ fn child_of(
     at: &NodePath,
 ) -> Result<Option<NodePath>, EditorFault>
     requires later { IsLater set.now next at.now }
-    ensures next { IfOk result (λ o. MatchOption o (is_under set.now next at.now
-        ≡ false) (λ p. IsNext set.now next at.now p)) }
+    ensures next { FindsChild set.now next at.now result }
     ensures memory { IfErr result (λ e. e ≡ OutOfMemory) }
 {
     if next >= set.len() {
@@ -140,21 +127,16 @@ fn show_below<E: Editor>(
     requires few { length revision.now.trees.now ≤ REVISION }
     requires normal { IsNormal revision.now.set.now }
     requires within { progress.old.next ≤ length revision.now.set.now }
-    requires walked { Walked revision.now.trees.now revision.now.set.now progress.old.next progress.old.tree }
+    requires walked { IsWalked revision.now progress.old }
     requires at { E.dir_path dir.old ≡ at.now }
     requires later { IsLater revision.now.set.now progress.old.next at.now }
-    ensures walked { OnOk result
-        (Walked revision.now.trees.now revision.now.set.now progress.new.next progress.new.tree) }
+    ensures walked { OnOk result (IsWalked revision.now progress.new) }
     ensures within { OnOk result (progress.new.next ≤ length revision.now.set.now) }
     ensures moved { OnOk result (progress.old.next ≤ progress.new.next) }
     ensures baton { E.dir_path dir.new ≡ E.dir_path dir.old }
     ensures past { OnOk result (is_under revision.now.set.now progress.new.next at.now ≡ false) }
-    ensures shown { OnOk result
-        (Shown E.shows editor.old editor.new (left revision.now.trees.now revision.now.set.now progress.old.next at.now)
-        (left revision.now.trees.now revision.now.set.now progress.new.next at.now)) }
-    ensures halts { IfErr result
-        (Halts E.shows E.began E.refuses revision.now.trees.now revision.now.set.now editor.old
-        (left revision.now.trees.now revision.now.set.now progress.old.next at.now)) }
+    ensures shown { GoesOn E.Editor revision.now progress.old progress.new editor.old editor.new at.now result }
+    ensures halts { HaltsFrom E.Editor revision.now progress.old editor.old at.now result }
     ensures began { E.began editor.new ≡ E.began editor.old }
 {
     loop {
@@ -186,19 +168,14 @@ fn show_root<E: Editor>(
     requires few { length revision.now.trees.now ≤ REVISION }
     requires normal { IsNormal revision.now.set.now }
     requires first { progress.old.next ≡ 0 }
-    requires walked { Walked revision.now.trees.now revision.now.set.now progress.old.next progress.old.tree }
+    requires walked { IsWalked revision.now progress.old }
     requires at { E.dir_path root.old ≡ [] }
-    ensures walked { OnOk result
-        (Walked revision.now.trees.now revision.now.set.now progress.new.next progress.new.tree) }
+    ensures walked { OnOk result (IsWalked revision.now progress.new) }
     ensures within { OnOk result (progress.new.next ≤ length revision.now.set.now) }
     ensures later { OnOk result (IsLater revision.now.set.now progress.new.next []) }
     ensures baton { E.dir_path root.new ≡ E.dir_path root.old }
-    ensures shown { OnOk result
-        (Shown E.shows editor.old editor.new (left revision.now.trees.now revision.now.set.now progress.old.next [])
-        (left revision.now.trees.now revision.now.set.now progress.new.next [])) }
-    ensures halts { IfErr result
-        (Halts E.shows E.began E.refuses revision.now.trees.now revision.now.set.now editor.old
-        (left revision.now.trees.now revision.now.set.now progress.old.next [])) }
+    ensures shown { GoesOn E.Editor revision.now progress.old progress.new editor.old editor.new [] result }
+    ensures halts { HaltsFrom E.Editor revision.now progress.old editor.old [] result }
     ensures began { E.began editor.new ≡ E.began editor.old }
 {
     let set = revision.set;
@@ -226,11 +203,8 @@ fn show_all<E: Editor>(
     requires at { E.dir_path root.old ≡ [] }
     ensures faultless { OnOk result (fault revision.now.trees.now revision.now.set.now ≡ None) }
     ensures baton { E.dir_path root.new ≡ E.dir_path root.old }
-    ensures shown { OnOk result
-        (Adds E.shows editor.old editor.new (walk revision.now.trees.now [] [] revision.now.set.now)) }
-    ensures halts { IfErr result
-        (Halts E.shows E.began E.refuses revision.now.trees.now revision.now.set.now editor.old
-        (walk revision.now.trees.now [] [] revision.now.set.now)) }
+    ensures shown { Drives E.Editor editor.old editor.new (inner_calls revision.now) result }
+    ensures halts { HaltsAmong E.Editor revision.now editor.old (inner_calls revision.now) result }
     ensures began { E.began editor.new ≡ E.began editor.old }
 {
     let mut progress = Progress {
@@ -247,13 +221,9 @@ fn show_edit<E: Editor>(revision: &Revision<'_>, editor: &mut E) -> Result<(), E
     requires few { length revision.now.trees.now ≤ REVISION }
     requires normal { IsNormal revision.now.set.now }
     ensures faultless { OnOk result (fault revision.now.trees.now revision.now.set.now ≡ None) }
-    ensures shown { OnOk result
-        (Adds E.shows editor.old editor.new
-        (call.Target (length revision.now.trees.now) ∷ call.OpenRoot (base_number revision.now.trees.now) ∷
-        (walk revision.now.trees.now [] [] revision.now.set.now ++ call.CloseDir [] ∷ []))) }
-    ensures halts { IfErr result
-        (Halts E.shows E.began E.refuses revision.now.trees.now revision.now.set.now editor.old
-        (calls.drive revision.now.trees.now revision.now.set.now)) }
+    ensures shown { Drives E.Editor editor.old editor.new (edit_calls revision.now.trees.now revision.now.set.now)
+        result }
+    ensures halts { HaltsInDrive E.Editor editor.old revision.now.trees.now revision.now.set.now result }
     ensures began { E.began editor.new ≡ E.began editor.old }
 {
     editor.target(next_number(revision.trees))?;
@@ -278,12 +248,8 @@ pub fn show_changes<E: Editor>(
     requires few { length trees.now ≤ REVISION }
     requires normal { IsNormal changes.now }
     ensures faultless { OnOk result (fault trees.now changes.now ≡ None) }
-    ensures shown { OnOk result
-        (Adds E.shows editor.old editor.new
-        (call.Target (length trees.now) ∷ call.OpenRoot (base_number trees.now) ∷
-        (walk trees.now [] [] changes.now ++ call.CloseDir [] ∷ []))) }
-    ensures halts { IfErr result
-        (Halts E.shows E.began E.refuses trees.now changes.now editor.old (calls.drive trees.now changes.now)) }
+    ensures shown { Drives E.Editor editor.old editor.new (edit_calls trees.now changes.now) result }
+    ensures halts { HaltsInDrive E.Editor editor.old trees.now changes.now result }
     ensures began { E.began editor.new ≡ E.began editor.old }
 {
     let revision = Revision {
@@ -316,8 +282,7 @@ pub fn drive<E: Editor>(
     ensures began { IfOk result (λ d. E.done_began d ≡ E.began editor) }
     ensures shown { IfOk result (λ d. E.done_shows d (calls.drive trees.now set.now)) }
     ensures faultless { OnOk result (fault trees.now set.now ≡ None) }
-    ensures effect { OnOk result ((q : Path)
-        → call_effect trees.now (calls.drive trees.now set.now) q ≡ effect trees.now set.now q) }
+    ensures effect { OnOk result (KeepsEffect trees.now set.now) }
     ensures refused { IfErr result (IsDriveRefusal E.refuses (E.began editor) trees.now set.now) }
 {
     let revision = Revision {

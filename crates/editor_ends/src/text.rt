@@ -1,11 +1,10 @@
 //! The calls that send a text.
-ghost use Rattle.std.specs.Prelude.{◌≡◌, ◌++◌, ◌∷◌, [], OnOk, IfErr, map};
-ghost use Rattle.std.specs.Option.{option_map, option_map_or};
+ghost use Rattle.std.specs.Prelude.{◌≡◌, ◌++◌, ◌∷◌, map};
+ghost use Rattle.std.specs.Option.{option_map};
 ghost use Rattle.md5.specs.Md5.{md5};
-ghost use Rattle.delta_editor.specs.Calls.{Adds};
 ghost use Rattle.delta_editor.specs.declared.call.Call.TheVariants as call;
-ghost use Rattle.editor_ends.specs.Parts.{pieces, text_calls};
-ghost use Rattle.editor_ends.specs.Shown.{Stops};
+ghost use Rattle.editor_ends.specs.Driven.{Drives, StopsAmong};
+ghost use Rattle.editor_ends.specs.Parts.{pieces, text_calls, text_parts};
 
 use delta_editor::{Editor, EditorFault};
 use dump_load::Change;
@@ -20,10 +19,10 @@ fn send_pieces<E: Editor>(
     file: &mut E::File,
     text: &[u8],
 ) -> Result<(), EditorFault>
-    ensures shown { OnOk result
-        (Adds E.shows editor.old editor.new (map (call.TextPiece (E.file_path file.old)) (pieces text.now))) }
-    ensures stops { IfErr result
-        (Stops E.shows E.began E.refuses editor.old (map (call.TextPiece (E.file_path file.old)) (pieces text.now))) }
+    ensures shown { Drives E.Editor editor.old editor.new (map (call.TextPiece (E.file_path file.old))
+        (pieces text.now)) result }
+    ensures stops { StopsAmong E.Editor editor.old (map (call.TextPiece (E.file_path file.old)) (pieces text.now))
+        result }
     ensures baton { E.file_path file.new ≡ E.file_path file.old }
     ensures began { E.began editor.new ≡ E.began editor.old }
 {
@@ -38,9 +37,8 @@ fn send_pieces<E: Editor>(
 
 // Sends a whole text.
 fn send_text<E: Editor>(editor: &mut E, file: &mut E::File, text: &Text) -> Result<(), EditorFault>
-    ensures shown { OnOk result (Adds E.shows editor.old editor.new (text_calls (E.file_path file.old) text.now)) }
-    ensures stops { IfErr result
-        (Stops E.shows E.began E.refuses editor.old (text_calls (E.file_path file.old) text.now)) }
+    ensures shown { Drives E.Editor editor.old editor.new (text_calls (E.file_path file.old) text.now) result }
+    ensures stops { StopsAmong E.Editor editor.old (text_calls (E.file_path file.old) text.now) result }
     ensures baton { E.file_path file.new ≡ E.file_path file.old }
     ensures began { E.began editor.new ≡ E.began editor.old }
 {
@@ -56,10 +54,8 @@ pub fn give_text<E: Editor>(
     change: &Change,
 ) -> Result<(), EditorFault>
     requires { E.file_path file.old ≡ change.now.path }
-    ensures shown { OnOk result
-        (Adds E.shows editor.old editor.new (option_map_or (text_calls change.now.path) change.now.text [])) }
-    ensures stops { IfErr result
-        (Stops E.shows E.began E.refuses editor.old (option_map_or (text_calls change.now.path) change.now.text [])) }
+    ensures shown { Drives E.Editor editor.old editor.new (text_parts change.now) result }
+    ensures stops { StopsAmong E.Editor editor.old (text_parts change.now) result }
     ensures baton { E.file_path file.new ≡ E.file_path file.old }
     ensures began { E.began editor.new ≡ E.began editor.old }
 {
