@@ -1,14 +1,23 @@
 -- What a history is seen as.
-use Rattle.std.specs.Prelude.{List, [], ◌∷◌, map, Option, Some, None}
+use Rattle.std.specs.Prelude.{◌≡◌, ◌++◌, ℕ, Bool, List, [], ◌∷◌, map, Option, Some, None, if◌then◌else◌}
+use Rattle.std.specs.List.{flat_map}
 use Rattle.std.specs.Option.{option_map}
 use Rattle.byte_streams.specs.declared.output.Output.{Ghosts}
+use Rattle.byte_streams.specs.Memory.{written_in}
+use Rattle.byte_streams.specs.declared.vec_writer.VecWriter.{VecWriter}
+use Rattle.std.specs.Io.KnownBytes.{Appends}
+use Rattle.node_base.specs.Tree.{PathMap}
+use Rattle.node_base.specs.declared.refusal.Refusal.{Refusal}
+use Rattle.dump_text.specs.declared.record.DumpRecord.{DumpRecord}
+use Rattle.dump_load.specs.declared.change.Change.{Change}
 use Rattle.dump_text.specs.declared.record.RevRecord.{RevRecord}
-use Rattle.fleet_engines.specs.Revisions.{plain, Rev, Told}
-use Rattle.fleet_engines.specs.Runs.{Held}
+use Rattle.fleet_engines.specs.Revisions.{by_set, plain, Makes, Rev, Told}
+use Rattle.fleet_engines.specs.Runs.{canon_of, head_of, CantEnd, EndsWith, Held, RefusesOne, TakesOne}
 use Rattle.fleet_engines.specs.Takers.{Place}
 use Rattle.fleet_engines.specs.Nodes.{nodes_of}
 use Rattle.fleet_engines.specs.declared.history.History.{History}
 use Rattle.fleet_engines.specs.declared.open_revision.OpenRevision.{OpenRevision}
+use Rattle.fleet_engines.specs.declared.product.Product.{Product}
 use Rattle.fleet_engines.specs.declared.open_revision.ReadRevision.{ReadRevision}
 
 abbrev pub rev_of : RevRecord → Rev
@@ -36,3 +45,40 @@ held_by R history output = record { told = told_of history; contents = R.content
 
 abbrev pub held : {K O : Type 0} → Ghosts O → Place K History O → Held
 held R p = held_by R p.store p.output
+
+-- a revision that was read makes one tree more, and is given back as it is written
+abbrev pub AddsRevision : History → ReadRevision → RevRecord → History → Type 0
+AddsRevision old revision out new =
+    (set : List Change) × (tree : PathMap) × Makes old.trees.items (rev_read revision) set tree × (rev_of out ≡ by_set (rev_read revision) set)
+    × (told_of new ≡ record (told_of old) { trees = old.trees.items ++ tree ∷ [] })
+
+-- the head and revision 0 in their canonical spelling, where they are due
+abbrev pub beginning_text : Bool → History → List ℕ
+beginning_text is_due history = if is_due then head_of (told_of history) else []
+
+-- the revision that is whole in its own, if there is one
+abbrev pub closed_text : Option RevRecord → List ℕ
+closed_text closed = flat_map canon_of (revs_of closed)
+
+abbrev pub due_text : Bool → History → Option RevRecord → List ℕ
+due_text is_due history closed = beginning_text is_due history ++ closed_text closed
+
+-- memory holds these bytes more
+abbrev pub HoldsMore : VecWriter → VecWriter → List ℕ → Type 0
+HoldsMore old new bytes = Appends (Some (written_in old)) (Some (written_in new)) bytes
+
+-- a record more is told to a history, and what is due is written
+abbrev pub TakesNext : {O : Type 0} → Ghosts O → Product → History → O → DumpRecord → History → O → Type 0
+TakesNext W product old before next new now = TakesOne product (held_by W old before) next (held_by W new now)
+
+-- it isn't
+abbrev pub RefusesNext : {O : Type 0} → Ghosts O → History → O → DumpRecord → Refusal → History → O → Type 0
+RefusesNext W old before next e new now = RefusesOne (held_by W old before) next e (held_by W new now)
+
+-- the end is told to it, and what is due then is written
+abbrev pub TakesEnd : {O : Type 0} → Ghosts O → Product → History → O → History → O → Type 0
+TakesEnd W product old before new now = EndsWith product (held_by W old before) (held_by W new now)
+
+-- it isn't
+abbrev pub RefusesEnd : {O : Type 0} → Ghosts O → History → O → Refusal → History → O → Type 0
+RefusesEnd W old before e new now = CantEnd (held_by W old before) e (held_by W new now)

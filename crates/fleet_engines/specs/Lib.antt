@@ -6,4 +6,5 @@ pub mod Nodes
 pub mod Pieces
 pub mod Revisions
 pub mod Runs
+pub mod Streams
 pub mod Takers

@@ -1,11 +1,11 @@
 -- What a dump's records tell: its revisions, judged one after another.
-use Rattle.std.specs.Prelude.{◌≡◌, ◌<◌, ◌≤◌, ℕ, ◌==◌, ◌&&◌, not, Bool, true, false, List, [], ◌∷◌, ◌++◌, map, length, Option, Some, None, is_none, if◌then◌else◌}
+use Rattle.std.specs.Prelude.{◌≡◌, ◌<◌, ◌≤◌, ◌⊎◌, ℕ, ◌==◌, ◌&&◌, not, Bool, true, false, List, [], ◌∷◌, ◌++◌, map, length, Option, Some, None, is_none, if◌then◌else◌}
 use Rattle.std.specs.Option.{option_map_or}
 use Rattle.std.specs.FinMap as finite
 use Rattle.node_base.specs.Props.{PropMap}
 use Rattle.node_base.specs.Tree.{PathMap, new_dir}
 use Rattle.node_base.specs.declared.refusal.Refusal.{Refusal}
-use Rattle.node_base.specs.declared.refusal.Refusal.TheVariants.{WrongNumber}
+use Rattle.node_base.specs.declared.refusal.Refusal.TheVariants.{OutOfMemory, WrongNumber}
 use Rattle.dump_text.specs.declared.record.NodeRecord.{NodeRecord}
 use Rattle.dump_text.specs.declared.record.DumpRecord.{DumpRecord}
 use Rattle.dump_text.specs.declared.record.DumpRecord.TheVariants.{Identity, Revision, Node, DeltaNode}
@@ -13,6 +13,7 @@ use Rattle.dump_load.specs.declared.change.Change.{Change}
 use Rattle.dump_load.specs.declared.fault.ChangeFault.{ChangeFault}
 use Rattle.dump_load.specs.Faults.{change_refusal}
 use Rattle.dump_load.specs.Trees.{Makes as MakesTree}
+use Rattle.dump_load.specs.declared.load.Applied.{Applied}
 use Rattle.dump_load.specs.Records.{change_of, record_of, set_fault, IsNormalSetOf, IsLoadRefusal}
 use Rattle.whole_texts.specs.declared.read_node.ReadNode.{ReadNode}
 use Rattle.whole_texts.specs.declared.refusal.TextRefusal.{TextRefusal}
@@ -67,6 +68,14 @@ pub data IsUnfit (trees : List PathMap) (r : Rev) (e : Refusal) : Type 0 where
   not_whole : (f : TextRefusal) → r.number ≡ length trees → length r.nodes ≤ 8192 → IsRefused trees r.nodes f → e ≡ text_refusal f → IsUnfit trees r e
   not_made : (whole : List NodeRecord) (f : ChangeFault) → length r.nodes ≤ 8192 → HaveRecords trees r.nodes whole → IsLoadRefusal trees r.number whole f → e ≡ change_refusal f → IsUnfit trees r e
 
+-- with whatever properties, a revision of that number and these nodes makes this
+abbrev pub MakesSet : List PathMap → ℕ → List ReadNode → Applied → Type 0
+MakesSet trees number nodes made = (props : PropMap) → Makes trees (record { number = number; props = props; nodes = nodes }) made.set made.tree
+
+-- with whatever properties, it is refused
+abbrev pub MakesNone : List PathMap → ℕ → List ReadNode → Refusal → Type 0
+MakesNone trees number nodes e = (props : PropMap) → IsUnfit trees (record { number = number; props = props; nodes = nodes }) e
+
 -- the revision as it is written: its changes in path order, each path once
 abbrev pub by_set : Rev → List Change → Rev
 by_set r set = record { number = r.number; props = r.props; nodes = map plain (map record_of set) }
@@ -104,6 +113,18 @@ TakesNode t n u out = (r : Rev) × (t.last ≡ Some r) × (is_past_zero t.last �
 -- it is refused: no revision other than 0 is read
 abbrev pub CantTakeNode : Told → Refusal → Type 0
 CantTakeNode t e = (e ≡ WrongNumber) × (is_past_zero t.last ≡ false)
+
+-- the revision that is read, which is another than 0, has a node more
+abbrev pub AddsNode : Option Rev → ReadNode → Option Rev → Type 0
+AddsNode before node after = (r : Rev) × (before ≡ Some r) × (is_past_zero before ≡ true) × (after ≡ Some (record r { nodes = r.nodes ++ node ∷ [] }))
+
+-- memory ran out, or the refusal has P
+abbrev pub MemoryOr : (Refusal → Type 0) → Refusal → Type 0
+MemoryOr P e = (e ≡ OutOfMemory) ⊎ P e
+
+-- memory ran out, or no revision other than 0 is read
+abbrev pub RefusesNode : Option Rev → Refusal → Type 0
+RefusesNode last e = (e ≡ OutOfMemory) ⊎ ((e ≡ WrongNumber) × (is_past_zero last ≡ false))
 
 -- one record more, and the revision that is whole by it
 abbrev pub Takes : Told → DumpRecord → Told → List Rev → Type 0

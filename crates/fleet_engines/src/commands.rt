@@ -1,7 +1,6 @@
 //! `list` and `canon` over any input and output.
-ghost use Rattle.std.specs.Prelude.{◌⊎◌, IfSome, IfErr, OnOk};
-ghost use Rattle.byte_streams.specs.Causes.{Rose, counts};
-ghost use Rattle.fleet_engines.specs.Runs.{Accepted, BothCounted, Refused};
+ghost use Rattle.std.specs.Prelude.{IfErr, OnOk};
+ghost use Rattle.fleet_engines.specs.Streams.{AcceptsDump, RefusesDump, TellsEither};
 
 use crate::engine::{Lister, Rewriter};
 use crate::history::History;
@@ -23,12 +22,10 @@ pub fn run_list<I: Input, O: Output>(
     input: &mut I,
     output: &mut O,
 ) -> Result<(), Refusal>
-    ensures ok { OnOk result (IfSome (I.remaining input.old) (λ bytes.
-        Accepted deltas Product.List bytes (O.contents output.old) (O.contents output.new))) }
-    ensures refused { IfErr result (λ e. Rose (O.failures output.old) (O.failures output.new)
-        ⊎ IfSome (I.remaining input.old) (λ bytes. Refused deltas Product.List bytes (O.contents output.old)
-        (O.contents output.new) e)) }
-    ensures peer { BothCounted result (counts I.failures I.reads input.old input.new) (O.failures output.old) (O.failures output.new) }
+    ensures ok { OnOk result (AcceptsDump I.Input O.Output deltas Product.List input.old output.old output.new) }
+    ensures refused { IfErr result (RefusesDump I.Input O.Output deltas Product.List input.old output.old
+        output.new) }
+    ensures peer { TellsEither I.Input input.old input.new O.failures output.old output.new result }
 {
     let mut history = History::new(alloc)?;
     let mut lister = Lister { alloc };
@@ -49,12 +46,10 @@ pub fn run_canon<I: Input, O: Output>(
     input: &mut I,
     output: &mut O,
 ) -> Result<(), Refusal>
-    ensures ok { OnOk result (IfSome (I.remaining input.old) (λ bytes.
-        Accepted deltas Product.Canon bytes (O.contents output.old) (O.contents output.new))) }
-    ensures refused { IfErr result (λ e. Rose (O.failures output.old) (O.failures output.new)
-        ⊎ IfSome (I.remaining input.old) (λ bytes. Refused deltas Product.Canon bytes (O.contents output.old)
-        (O.contents output.new) e)) }
-    ensures peer { BothCounted result (counts I.failures I.reads input.old input.new) (O.failures output.old) (O.failures output.new) }
+    ensures ok { OnOk result (AcceptsDump I.Input O.Output deltas Product.Canon input.old output.old output.new) }
+    ensures refused { IfErr result (RefusesDump I.Input O.Output deltas Product.Canon input.old output.old
+        output.new) }
+    ensures peer { TellsEither I.Input input.old input.new O.failures output.old output.new result }
 {
     let mut history = History::new(alloc)?;
     let mut rewriter = Rewriter::new(alloc);

@@ -1,11 +1,10 @@
 //! What `list` and `canon` make of a dump, record by record.
-ghost use Rattle.std.specs.Prelude.{◌≡◌, ◌&&◌, ◌++◌, ◌⊎◌, [], Some, IfOk, IfErr, OnOk, not, if◌then◌else◌};
-ghost use Rattle.std.specs.Io.KnownBytes.{Appends};
-ghost use Rattle.std.specs.List.{flat_map};
-ghost use Rattle.byte_streams.specs.Causes.{Rose};
+ghost use Rattle.std.specs.Prelude.{◌≡◌, ◌&&◌, Some, IfOk, IfErr, OnOk, not, if◌then◌else◌};
 ghost use Rattle.byte_streams.specs.Memory.{written_in};
-ghost use Rattle.fleet_engines.specs.Histories.{held, held_by, revs_of, told_of};
-ghost use Rattle.fleet_engines.specs.Runs.{canon_of, has_begun, head_of, CantEnd, Counted, EndsWith, RefusesOne, TakesOne};
+ghost use Rattle.fleet_engines.specs.Histories.{beginning_text, closed_text, due_text, held, told_of, HoldsMore};
+ghost use Rattle.fleet_engines.specs.Histories.{RefusesEnd, RefusesNext, TakesEnd, TakesNext};
+ghost use Rattle.fleet_engines.specs.Runs.{has_begun, CantEnd, EndsWith, RefusesOne, TakesOne};
+ghost use Rattle.fleet_engines.specs.Streams.{TellsFailure, Writes, WritesNone};
 
 use crate::history::History;
 use crate::listing::newest_listing;
@@ -48,8 +47,7 @@ fn begins(had_begun: bool, history: &History) -> bool
 
 // Adds the head and revision 0, where they are due.
 fn push_beginning(is_due: bool, history: &History, bytes: &mut VecWriter) -> Result<(), AllocError>
-    ensures { OnOk result (Appends (Some (written_in bytes.old)) (Some (written_in bytes.new))
-        (if is_due then head_of (told_of history.now) else [])) }
+    ensures { OnOk result (HoldsMore bytes.old bytes.new (beginning_text is_due history.now)) }
 {
     if !is_due {
         return Ok(());
@@ -65,8 +63,7 @@ fn push_beginning(is_due: bool, history: &History, bytes: &mut VecWriter) -> Res
 
 // Adds the revision that is whole, if there is one.
 fn push_closed(closed: &Option<RevRecord>, bytes: &mut VecWriter) -> Result<(), AllocError>
-    ensures { OnOk result (Appends (Some (written_in bytes.old)) (Some (written_in bytes.new))
-        (flat_map canon_of (revs_of closed.now))) }
+    ensures { OnOk result (HoldsMore bytes.old bytes.new (closed_text closed.now)) }
 {
     match closed {
         Some(revision) => {
@@ -95,8 +92,7 @@ fn make_due(
     closed: &Option<RevRecord>,
     bytes: &mut VecWriter,
 ) -> Result<(), AllocError>
-    ensures { OnOk result (written_in bytes.new ≡ (if is_due then head_of (told_of history.now) else [])
-        ++ flat_map canon_of (revs_of closed.now)) }
+    ensures { OnOk result (written_in bytes.new ≡ due_text is_due history.now closed.now) }
 {
     bytes.restart(room_for(closed))?;
     push_beginning(is_due, history, bytes)?;
@@ -111,11 +107,9 @@ fn write_due<O: Output>(
     bytes: &mut VecWriter,
     output: &mut O,
 ) -> Result<(), Refusal>
-    ensures ok { OnOk result (Appends (O.contents output.old) (O.contents output.new)
-        ((if is_due then head_of (told_of history.now) else []) ++ flat_map canon_of (revs_of closed.now))) }
-    ensures refused { IfErr result (λ e. Rose (O.failures output.old) (O.failures output.new)
-        ⊎ ((O.contents output.new ≡ O.contents output.old) × (e ≡ Refusal.OutOfMemory))) }
-    ensures peer { Counted result (O.failures output.old) (O.failures output.new) }
+    ensures ok { OnOk result (Writes O.contents output.old output.new (due_text is_due history.now closed.now)) }
+    ensures refused { IfErr result (WritesNone O.Output output.old output.new) }
+    ensures peer { TellsFailure O.failures output.old output.new result }
 {
     match make_due(is_due, history, closed, bytes) {
         Ok(()) => write(output, bytes.as_slice()),
@@ -129,11 +123,9 @@ fn list_record<O: Output>(
     next: DumpRecord,
     output: &mut O,
 ) -> Result<(), Refusal>
-    ensures ok { OnOk result (TakesOne Product.List (held_by O.Output history.old output.old) next
-        (held_by O.Output history.new output.new)) }
-    ensures refused { IfErr result (λ e. RefusesOne (held_by O.Output history.old output.old) next e
-        (held_by O.Output history.new output.new)) }
-    ensures peer { Counted result (O.failures output.old) (O.failures output.new) }
+    ensures ok { OnOk result (TakesNext O.Output Product.List history.old output.old next history.new output.new) }
+    ensures refused { IfErr result (λ e. RefusesNext O.Output history.old output.old next e history.new output.new) }
+    ensures peer { TellsFailure O.failures output.old output.new result }
 {
     match history.take(next) {
         Ok(_closed) => Ok(()),
@@ -148,11 +140,9 @@ fn rewrite<O: Output>(
     next: DumpRecord,
     output: &mut O,
 ) -> Result<(), Refusal>
-    ensures ok { OnOk result (TakesOne Product.Canon (held_by O.Output history.old output.old) next
-        (held_by O.Output history.new output.new)) }
-    ensures refused { IfErr result (λ e. RefusesOne (held_by O.Output history.old output.old) next e
-        (held_by O.Output history.new output.new)) }
-    ensures peer { Counted result (O.failures output.old) (O.failures output.new) }
+    ensures ok { OnOk result (TakesNext O.Output Product.Canon history.old output.old next history.new output.new) }
+    ensures refused { IfErr result (λ e. RefusesNext O.Output history.old output.old next e history.new output.new) }
+    ensures peer { TellsFailure O.failures output.old output.new result }
 {
     let had_begun = history.has_begun();
     let closed = history.take(next)?;
@@ -166,11 +156,9 @@ fn finish_list<O: Output>(
     history: &mut History,
     output: &mut O,
 ) -> Result<(), Refusal>
-    ensures ok { OnOk result (EndsWith Product.List (held_by O.Output history.old output.old)
-        (held_by O.Output history.new output.new)) }
-    ensures refused { IfErr result (λ e. CantEnd (held_by O.Output history.old output.old) e
-        (held_by O.Output history.new output.new)) }
-    ensures peer { Counted result (O.failures output.old) (O.failures output.new) }
+    ensures ok { OnOk result (TakesEnd O.Output Product.List history.old output.old history.new output.new) }
+    ensures refused { IfErr result (λ e. RefusesEnd O.Output history.old output.old e history.new output.new) }
+    ensures peer { TellsFailure O.failures output.old output.new result }
 {
     history.close()?;
     match newest_listing(alloc, history.trees()) {
@@ -185,11 +173,9 @@ fn finish_canon<O: Output>(
     history: &mut History,
     output: &mut O,
 ) -> Result<(), Refusal>
-    ensures ok { OnOk result (EndsWith Product.Canon (held_by O.Output history.old output.old)
-        (held_by O.Output history.new output.new)) }
-    ensures refused { IfErr result (λ e. CantEnd (held_by O.Output history.old output.old) e
-        (held_by O.Output history.new output.new)) }
-    ensures peer { Counted result (O.failures output.old) (O.failures output.new) }
+    ensures ok { OnOk result (TakesEnd O.Output Product.Canon history.old output.old history.new output.new) }
+    ensures refused { IfErr result (λ e. RefusesEnd O.Output history.old output.old e history.new output.new) }
+    ensures peer { TellsFailure O.failures output.old output.new result }
 {
     let had_begun = history.has_begun();
     let closed = history.close()?;

@@ -1,14 +1,13 @@
 //! The revisions of a dump, judged one after the other.
-ghost use Rattle.std.specs.Prelude.{◌≡◌, ◌∷◌, ◌++◌, ◌⊎◌, [], length, List, Some, false, true, IfOk, IfErr};
+ghost use Rattle.std.specs.Prelude.{◌≡◌, ◌∷◌, [], length, Some, false, true, IfOk, IfErr};
 ghost use Rattle.std.specs.Option.{option_copied, option_map};
 ghost use Rattle.std.specs.List.{slice_get};
-ghost use Rattle.dump_load.specs.declared.change.Change.{Change};
 ghost use Rattle.dump_text.specs.Canon.{now_of};
-ghost use Rattle.node_base.specs.Tree.{PathMap};
-ghost use Rattle.fleet_engines.specs.Histories.{told_of, revs_of, rev_of, rev_read};
-ghost use Rattle.fleet_engines.specs.Revisions.{by_set, is_zero, root_alone, untold, Makes, IsUnfit};
-ghost use Rattle.fleet_engines.specs.Revisions.{Closes, CantClose, Takes, CantTake, TakesNode, CantTakeNode};
+ghost use Rattle.fleet_engines.specs.Histories.{rev_read, revs_of, told_of, AddsRevision};
+ghost use Rattle.fleet_engines.specs.Revisions.{is_zero, root_alone, untold, CantClose, CantTake, CantTakeNode};
+ghost use Rattle.fleet_engines.specs.Revisions.{Closes, IsUnfit, MemoryOr, Takes, TakesNode};
 ghost use Rattle.fleet_engines.specs.Runs.{has_begun};
+ghost use Rattle.fleet_engines.specs.Streams.{NoPeerFails};
 
 use crate::open_revision::{OpenRevision, ReadRevision};
 use dump_load::Applied;
@@ -69,8 +68,8 @@ impl History {
     /// as it is written.
     pub fn take(&mut self, next: DumpRecord) -> Result<Option<RevRecord>, Refusal>
         ensures taken { IfOk result (λ out. Takes (told_of self.old) next (told_of self.new) (revs_of out)) }
-        ensures refused { IfErr result (λ e. (e ≡ Refusal.OutOfMemory) ⊎ CantTake (told_of self.old) next e) }
-        ensures no_peer { IfErr result (λ e. e ≡ Refusal.PeerFailed → ⊥) }
+        ensures refused { IfErr result (MemoryOr (CantTake (told_of self.old) next)) }
+        ensures no_peer { NoPeerFails result }
     {
         match next {
             DumpRecord::Identity(uuid) => {
@@ -95,8 +94,8 @@ impl History {
     // A node more of the revision that is read. No revision is whole by it.
     fn add_node(&mut self, node: ReadNode) -> Result<Option<RevRecord>, Refusal>
         ensures taken { IfOk result (λ out. TakesNode (told_of self.old) node (told_of self.new) (revs_of out)) }
-        ensures refused { IfErr result (λ e. (e ≡ Refusal.OutOfMemory) ⊎ CantTakeNode (told_of self.old) e) }
-        ensures no_peer { IfErr result (λ e. e ≡ Refusal.PeerFailed → ⊥) }
+        ensures refused { IfErr result (MemoryOr (CantTakeNode (told_of self.old))) }
+        ensures no_peer { NoPeerFails result }
     {
         match self.last.add_node(node) {
             Ok(()) => Ok(None),
@@ -108,8 +107,8 @@ impl History {
     /// before any other, gives its properties.
     pub fn close(&mut self) -> Result<Option<RevRecord>, Refusal>
         ensures closed { IfOk result (λ out. Closes (told_of self.old) (told_of self.new) (revs_of out)) }
-        ensures refused { IfErr result (λ e. (e ≡ Refusal.OutOfMemory) ⊎ CantClose (told_of self.old) e) }
-        ensures no_peer { IfErr result (λ e. e ≡ Refusal.PeerFailed → ⊥) }
+        ensures refused { IfErr result (MemoryOr (CantClose (told_of self.old))) }
+        ensures no_peer { NoPeerFails result }
     {
         let Some(revision) = self.last.take() else {
             return Ok(None);
@@ -124,12 +123,9 @@ impl History {
 
     // One tree more. The records come back in their canonical order.
     fn add_revision(&mut self, revision: ReadRevision) -> Result<RevRecord, Refusal>
-        ensures made { IfOk result (λ out. (set : List Change) × (tree : PathMap)
-            × Makes self.old.trees.items (rev_read revision) set tree × (rev_of out ≡ by_set (rev_read revision) set)
-            × (told_of self.new ≡ record (told_of self.old) { trees = self.old.trees.items ++ tree ∷ [] })) }
-        ensures refused { IfErr result (λ e. (e ≡ Refusal.OutOfMemory)
-            ⊎ IsUnfit self.old.trees.items (rev_read revision) e) }
-        ensures no_peer { IfErr result (λ e. e ≡ Refusal.PeerFailed → ⊥) }
+        ensures made { IfOk result (λ out. AddsRevision self.old revision out self.new) }
+        ensures refused { IfErr result (MemoryOr (IsUnfit self.old.trees.items (rev_read revision))) }
+        ensures no_peer { NoPeerFails result }
     {
         let ReadRevision {
             number,

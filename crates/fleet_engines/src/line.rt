@@ -1,9 +1,7 @@
 //! The line that tells a refusal. Writing it takes no memory.
-ghost use Rattle.std.specs.Prelude.{◌≡◌, ◌++◌, [], IfErr, OnOk, OnErr};
-ghost use Rattle.std.specs.Io.KnownBytes.{Appends};
-ghost use Rattle.byte_streams.specs.Causes.{Rose};
+ghost use Rattle.std.specs.Prelude.{◌++◌, [], OnOk, OnErr};
 ghost use Rattle.node_base.specs.Refusals.{fault_line, inconsistent_text, refusal_text, shown_token, told_text};
-ghost use Rattle.fleet_engines.specs.Runs.{Counted};
+ghost use Rattle.fleet_engines.specs.Streams.{FailedIn, OnlyPeerFails, TellsFailure, Writes};
 
 use crate::stream::{write, write_count, write_parts};
 use byte_streams::Output;
@@ -11,10 +9,10 @@ use node_base::{Refusal, RevNo, ToldNumber, shown_byte};
 
 // Writes a token as it is printed.
 fn write_shown<O: Output>(output: &mut O, token: &[u8]) -> Result<(), Refusal>
-    ensures ok { OnOk result (Appends (O.contents output.old) (O.contents output.new) (shown_token token.now)) }
-    ensures peer { Counted result (O.failures output.old) (O.failures output.new) }
-    ensures failed { OnErr result (Rose (O.failures output.old) (O.failures output.new)) }
-    ensures only_peer { IfErr result (λ e. e ≡ Refusal.PeerFailed) }
+    ensures ok { OnOk result (Writes O.contents output.old output.new (shown_token token.now)) }
+    ensures peer { TellsFailure O.failures output.old output.new result }
+    ensures failed { OnErr result (FailedIn O.failures output.old output.new) }
+    ensures only_peer { OnlyPeerFails result }
 {
     for byte in token {
         write(output, &[shown_byte(*byte)])?;
@@ -29,11 +27,11 @@ fn write_token<O: Output>(
     token: &[u8],
     after: &[u8],
 ) -> Result<(), Refusal>
-    ensures ok { OnOk result (Appends (O.contents output.old) (O.contents output.new)
+    ensures ok { OnOk result (Writes O.contents output.old output.new
         (before.now ++ (shown_token token.now ++ after.now))) }
-    ensures peer { Counted result (O.failures output.old) (O.failures output.new) }
-    ensures failed { OnErr result (Rose (O.failures output.old) (O.failures output.new)) }
-    ensures only_peer { IfErr result (λ e. e ≡ Refusal.PeerFailed) }
+    ensures peer { TellsFailure O.failures output.old output.new result }
+    ensures failed { OnErr result (FailedIn O.failures output.old output.new) }
+    ensures only_peer { OnlyPeerFails result }
 {
     write(output, before)?;
     write_shown(output, token)?;
@@ -47,11 +45,11 @@ fn write_told<O: Output>(
     number: &ToldNumber,
     after: &[u8],
 ) -> Result<(), Refusal>
-    ensures ok { OnOk result (Appends (O.contents output.old) (O.contents output.new)
+    ensures ok { OnOk result (Writes O.contents output.old output.new
         (before.now ++ (told_text number.now ++ after.now))) }
-    ensures peer { Counted result (O.failures output.old) (O.failures output.new) }
-    ensures failed { OnErr result (Rose (O.failures output.old) (O.failures output.new)) }
-    ensures only_peer { IfErr result (λ e. e ≡ Refusal.PeerFailed) }
+    ensures peer { TellsFailure O.failures output.old output.new result }
+    ensures failed { OnErr result (FailedIn O.failures output.old output.new) }
+    ensures only_peer { OnlyPeerFails result }
 {
     match number {
         ToldNumber::Missing => write_parts(output, before, b"-", after),
@@ -67,11 +65,11 @@ fn write_inconsistent<O: Output>(
     copying: &ToldNumber,
     head: RevNo,
 ) -> Result<(), Refusal>
-    ensures ok { OnOk result (Appends (O.contents output.old) (O.contents output.new)
-        (inconsistent_text merged.now copying.now head)) }
-    ensures peer { Counted result (O.failures output.old) (O.failures output.new) }
-    ensures failed { OnErr result (Rose (O.failures output.old) (O.failures output.new)) }
-    ensures only_peer { IfErr result (λ e. e ≡ Refusal.PeerFailed) }
+    ensures ok { OnOk result (Writes O.contents output.old output.new (inconsistent_text merged.now copying.now
+        head)) }
+    ensures peer { TellsFailure O.failures output.old output.new result }
+    ensures failed { OnErr result (FailedIn O.failures output.old output.new) }
+    ensures only_peer { OnlyPeerFails result }
 {
     write_told(output, b"inconsistent: merged ", merged, b", copying ")?;
     write_told(output, b"", copying, b", head ")?;
@@ -80,10 +78,10 @@ fn write_inconsistent<O: Output>(
 
 // Writes the text of a refusal.
 fn write_text<O: Output>(output: &mut O, refusal: &Refusal) -> Result<(), Refusal>
-    ensures ok { OnOk result (Appends (O.contents output.old) (O.contents output.new) (refusal_text refusal.now)) }
-    ensures peer { Counted result (O.failures output.old) (O.failures output.new) }
-    ensures failed { OnErr result (Rose (O.failures output.old) (O.failures output.new)) }
-    ensures only_peer { IfErr result (λ e. e ≡ Refusal.PeerFailed) }
+    ensures ok { OnOk result (Writes O.contents output.old output.new (refusal_text refusal.now)) }
+    ensures peer { TellsFailure O.failures output.old output.new result }
+    ensures failed { OnErr result (FailedIn O.failures output.old output.new) }
+    ensures only_peer { OnlyPeerFails result }
 {
     match refusal {
         Refusal::Behind(head) => {
@@ -122,10 +120,10 @@ fn write_text<O: Output>(output: &mut O, refusal: &Refusal) -> Result<(), Refusa
 /// Writes the line that tells a refusal, `svnfleet: NUMBER TEXT`. PeerFailed (49) where the output failed, and only
 /// there; it takes no memory.
 pub fn write_line<O: Output>(output: &mut O, refusal: &Refusal) -> Result<(), Refusal>
-    ensures ok { OnOk result (Appends (O.contents output.old) (O.contents output.new) (fault_line refusal.now)) }
-    ensures peer { Counted result (O.failures output.old) (O.failures output.new) }
-    ensures failed { OnErr result (Rose (O.failures output.old) (O.failures output.new)) }
-    ensures only_peer { IfErr result (λ e. e ≡ Refusal.PeerFailed) }
+    ensures ok { OnOk result (Writes O.contents output.old output.new (fault_line refusal.now)) }
+    ensures peer { TellsFailure O.failures output.old output.new result }
+    ensures failed { OnErr result (FailedIn O.failures output.old output.new) }
+    ensures only_peer { OnlyPeerFails result }
 {
     write_count(output, b"svnfleet: ", u64::from(refusal.number()), b" ")?;
     write_text(output, refusal)?;

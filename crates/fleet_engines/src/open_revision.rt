@@ -1,8 +1,9 @@
 //! The revision of a dump that is read.
-ghost use Rattle.std.specs.Prelude.{◌≡◌, ◌∷◌, ◌++◌, ◌⊎◌, [], Some, None, is_none, true, false, IfErr, OnOk};
+ghost use Rattle.std.specs.Prelude.{◌≡◌, [], Some, None, is_none, false, IfErr, OnOk};
 ghost use Rattle.std.specs.Option.{option_map};
 ghost use Rattle.fleet_engines.specs.Histories.{open_in, rev_read};
-ghost use Rattle.fleet_engines.specs.Revisions.{Rev, is_past_zero};
+ghost use Rattle.fleet_engines.specs.Revisions.{is_past_zero, AddsNode, RefusesNode};
+ghost use Rattle.fleet_engines.specs.Streams.{NoPeerFails};
 
 use crate::revision_nodes::RevisionNodes;
 use node_base::{Props, Refusal, RevNo};
@@ -49,12 +50,9 @@ impl OpenRevision {
 
     /// A node of it. One of no revision, or of revision 0, is WrongNumber (16); OutOfMemory (70).
     pub fn add_node(&mut self, node: ReadNode) -> Result<(), Refusal>
-        ensures ok { OnOk result ((r : Rev) × (open_in self.old ≡ Some r)
-            × (is_past_zero (open_in self.old) ≡ true)
-            × (open_in self.new ≡ Some (record r { nodes = r.nodes ++ node ∷ [] }))) }
-        ensures refused { IfErr result (λ e. ((e ≡ Refusal.OutOfMemory)
-            ⊎ ((e ≡ Refusal.WrongNumber) × (is_past_zero (open_in self.old) ≡ false)))) }
-        ensures no_peer { IfErr result (λ e. e ≡ Refusal.PeerFailed → ⊥) }
+        ensures ok { OnOk result (AddsNode (open_in self.old) node (open_in self.new)) }
+        ensures refused { IfErr result (RefusesNode (open_in self.old)) }
+        ensures no_peer { NoPeerFails result }
     {
         if !self.is_past_zero() {
             return Err(Refusal::WrongNumber);

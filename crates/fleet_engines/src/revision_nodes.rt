@@ -1,10 +1,10 @@
 //! The nodes of a revision that is read. Once there are more than a set is made of, their paths alone are kept.
-ghost use Rattle.std.specs.Prelude.{◌≡◌, ◌≤◌, ◌<◌, ◌∷◌, ◌++◌, [], List, Some, length, map, IfOk, IfErr, OnOk, OnErr};
+ghost use Rattle.std.specs.Prelude.{◌≡◌, ◌≤◌, ◌<◌, [], List, Some, length, map, IfOk, IfErr, OnOk, OnErr};
 ghost use Rattle.dump_load.specs.declared.change.Change.{Change};
 ghost use Rattle.dump_load.specs.Records.{set_fault};
-ghost use Rattle.node_base.specs.Props.{PropMap};
-ghost use Rattle.fleet_engines.specs.FirstPaths.{AreFirstPaths};
-ghost use Rattle.fleet_engines.specs.Revisions.{changes_of, Makes, IsUnfit};
+ghost use Rattle.fleet_engines.specs.FirstPaths.{AddsPath, AreFirstPaths};
+ghost use Rattle.fleet_engines.specs.Revisions.{changes_of, MakesNone, MakesSet};
+ghost use Rattle.fleet_engines.specs.Streams.{NoPeerFails};
 ghost use Rattle.whole_texts.specs.Whole.{node_in};
 
 use dump_load::{Applied, ChangeFault, change_refusal, load_revision};
@@ -39,8 +39,7 @@ pub struct RevisionNodes {
 
 // A path more, unless there are too many already.
 fn add_path(paths: &mut BTreeSet<NodePath>, path: NodePath) -> Result<(), AllocError>
-    ensures named { OnOk result ((cs : List Change) (c : Change) → c.path ≡ path
-        → AreFirstPaths paths.old.keys cs → AreFirstPaths paths.new.keys (cs ++ c ∷ [])) }
+    ensures named { OnOk result (AddsPath path paths.old.keys paths.new.keys) }
     ensures few { length paths.old.keys ≤ 4097 → length paths.new.keys ≤ 4097 }
     ensures same { OnErr result (paths.new.keys ≡ paths.old.keys) }
 {
@@ -91,11 +90,9 @@ fn load_kept(
 ) -> Result<Applied, Refusal>
     requires next { number ≡ length trees.now }
     requires few { length nodes.items ≤ 8192 }
-    ensures made { IfOk result (λ a. (props : PropMap)
-        → Makes trees.now (record { number = number; props = props; nodes = nodes.items }) a.set a.tree) }
-    ensures refused { IfErr result (λ e. (props : PropMap)
-        → IsUnfit trees.now (record { number = number; props = props; nodes = nodes.items }) e) }
-    ensures no_peer { IfErr result (λ e. e ≡ Refusal.PeerFailed → ⊥) }
+    ensures made { IfOk result (MakesSet trees.now number nodes.items) }
+    ensures refused { IfErr result (MakesNone trees.now number nodes.items) }
+    ensures no_peer { NoPeerFails result }
 {
     let records = match make_whole(alloc, trees, nodes) {
         Ok(records) => records,
@@ -108,7 +105,7 @@ fn load_kept(
 }
 
 impl RevisionNodes {
-    ghost use Rattle.fleet_engines.specs.Nodes.{nodes_of};
+    ghost use Rattle.fleet_engines.specs.Nodes.{nodes_of, HaveOneMore};
 
     /// None came yet.
     pub fn new(alloc: Global) -> RevisionNodes
@@ -124,7 +121,7 @@ impl RevisionNodes {
 
     /// One more came.
     pub fn push(&mut self, node: ReadNode) -> Result<(), AllocError>
-        ensures { OnOk result (nodes_of self.new ≡ nodes_of self.old ++ node ∷ []) }
+        ensures { OnOk result (HaveOneMore self.old node self.new) }
     {
         let came = self.came.len();
         if came < NODES {
@@ -139,7 +136,7 @@ impl RevisionNodes {
     // It is kept.
     fn keep(&mut self, node: ReadNode) -> Result<(), AllocError>
         requires { length self.old.came.items < 8192 }
-        ensures { OnOk result (nodes_of self.new ≡ nodes_of self.old ++ node ∷ []) }
+        ensures { OnOk result (HaveOneMore self.old node self.new) }
     {
         self.came.reserve(1)?;
         let came = Snapshot::of(&node);
@@ -151,7 +148,7 @@ impl RevisionNodes {
     // It is one too many: the paths of all are kept from now on.
     fn pass(&mut self, node: ReadNode) -> Result<(), AllocError>
         requires { length self.old.came.items ≡ 8192 }
-        ensures { OnOk result (nodes_of self.new ≡ nodes_of self.old ++ node ∷ []) }
+        ensures { OnOk result (HaveOneMore self.old node self.new) }
     {
         self.came.reserve(1)?;
         let came = Snapshot::of(&node);
@@ -166,7 +163,7 @@ impl RevisionNodes {
     // Its path is kept, where it is a new one.
     fn note(&mut self, node: ReadNode) -> Result<(), AllocError>
         requires { 8192 < length self.old.came.items }
-        ensures { OnOk result (nodes_of self.new ≡ nodes_of self.old ++ node ∷ []) }
+        ensures { OnOk result (HaveOneMore self.old node self.new) }
     {
         self.came.reserve(1)?;
         let came = Snapshot::of(&node);
@@ -179,11 +176,9 @@ impl RevisionNodes {
     /// that isn't the next one (16), then more nodes than are kept, then a text that can't be made whole (6, 8, 11, 14,
     /// 17, 44), then what makes no set, then the set's first fault.
     pub fn load(self, trees: &[Tree], number: RevNo) -> Result<Applied, Refusal>
-        ensures made { IfOk result (λ a. (props : PropMap)
-            → Makes trees.now (record { number = number; props = props; nodes = nodes_of self }) a.set a.tree) }
-        ensures refused { IfErr result (λ e. (props : PropMap)
-            → IsUnfit trees.now (record { number = number; props = props; nodes = nodes_of self }) e) }
-        ensures no_peer { IfErr result (λ e. e ≡ Refusal.PeerFailed → ⊥) }
+        ensures made { IfOk result (MakesSet trees.now number (nodes_of self)) }
+        ensures refused { IfErr result (MakesNone trees.now number (nodes_of self)) }
+        ensures no_peer { NoPeerFails result }
     {
         if number.index() != trees.len() {
             return Err(Refusal::WrongNumber);

@@ -1,10 +1,9 @@
 //! A dump that is read to its end, by whoever takes its records.
-ghost use Rattle.std.specs.Prelude.{◌≡◌, ◌<◌, ◌++◌, ℕ, Bool, List, length, IfErr, OnOk};
-ghost use Rattle.std.specs.Io.KnownBytes.{Consumes, IsAtEnd};
-ghost use Rattle.byte_streams.specs.Causes.{counts};
+ghost use Rattle.std.specs.Prelude.{◌≡◌, ◌<◌, length, IfErr, OnOk};
 ghost use Rattle.dump_text.specs.Streams.{fresh_by};
-ghost use Rattle.fleet_engines.specs.Runs.{BothCounted, Counted};
-ghost use Rattle.fleet_engines.specs.Takers.{place, Place, TakesAll, Stops, Reached, Done, Halts, OfStream};
+ghost use Rattle.fleet_engines.specs.Streams.{GoesOn, HaltsDump, HaltsIn, ReachesEnd, TakesDump, TellsEither};
+ghost use Rattle.fleet_engines.specs.Streams.{TellsFailure};
+ghost use Rattle.fleet_engines.specs.Takers.{place, TakesAll, Stops};
 
 use crate::stream::read;
 use crate::taker::Taker;
@@ -38,7 +37,7 @@ fn take_all<S, O, K: Taker<S, O>>(
         (place taker.new store.new output.new)) }
     ensures refused { IfErr result (λ e. Stops K.takes K.refuses (place taker.old store.old output.old) records.items e
         (place taker.new store.new output.new)) }
-    ensures peer { Counted result (K.failures output.old) (K.failures output.new) }
+    ensures peer { TellsFailure K.failures output.old output.new result }
 {
     for next in records {
         taker.take(next, store, output)?;
@@ -55,14 +54,11 @@ fn feed<S, O, K: Taker<S, O>>(
     store: &mut S,
     output: &mut O,
 ) -> Result<(), Refusal>
-    ensures ok { OnOk result ((deltas : Bool) (bytes : List ℕ) (first : Place K S O)
-        → Reached deltas K.takes bytes reader.old first (place taker.old store.old output.old)
-        → Reached deltas K.takes (bytes ++ piece.now) reader.new first (place taker.new store.new output.new)) }
-    ensures refused { IfErr result (λ e. (deltas : Bool) (bytes rest : List ℕ) (first : Place K S O)
-        → Reached deltas K.takes bytes reader.old first (place taker.old store.old output.old)
-        → Halts deltas K.takes K.refuses K.cant_end ((bytes ++ piece.now) ++ rest) first e
+    ensures ok { OnOk result (GoesOn K.Taker piece.now reader.old (place taker.old store.old output.old) reader.new
         (place taker.new store.new output.new)) }
-    ensures peer { Counted result (K.failures output.old) (K.failures output.new) }
+    ensures refused { IfErr result (λ e. HaltsIn K.Taker piece.now reader.old (place taker.old store.old output.old) e
+        (place taker.new store.new output.new)) }
+    ensures peer { TellsFailure K.failures output.old output.new result }
 {
     let mut records = Vec::new(alloc);
     let fed = reader.feed(piece, &mut records);
@@ -85,14 +81,11 @@ fn read_all<S, O, K: Taker<S, O>, I: Input>(
 ) -> Result<(), Refusal>
     requires begins { reader.old ≡ fresh_by reader.old.head.deltas }
     requires room { 0 < length piece.old }
-    ensures ok { OnOk result ((bytes : List ℕ) × Consumes (I.remaining input.old) (I.remaining input.new) bytes
-        × IsAtEnd (I.remaining input.new)
-        × Reached reader.old.head.deltas K.takes bytes reader.new (place taker.old store.old output.old)
-        (place taker.new store.new output.new)) }
-    ensures refused { IfErr result (λ e. OfStream (I.remaining input.old) (I.remaining input.new) (λ bytes.
-        Halts reader.old.head.deltas K.takes K.refuses K.cant_end bytes (place taker.old store.old output.old) e
-        (place taker.new store.new output.new))) }
-    ensures peer { BothCounted result (counts I.failures I.reads input.old input.new) (K.failures output.old) (K.failures output.new) }
+    ensures ok { OnOk result (ReachesEnd I.Input K.Taker reader.old.head.deltas input.old input.new reader.new
+        (place taker.old store.old output.old) (place taker.new store.new output.new)) }
+    ensures refused { IfErr result (λ e. HaltsDump I.Input K.Taker reader.old.head.deltas input.old input.new
+        (place taker.old store.old output.old) e (place taker.new store.new output.new)) }
+    ensures peer { TellsEither I.Input input.old input.new K.failures output.old output.new result }
 {
     for _turn in 0..MOST_READS {
         let n = read(input, piece)?;
@@ -115,12 +108,11 @@ fn read_dump<S, O, K: Taker<S, O>, I: Input>(
     input: &mut I,
 ) -> Result<(), Refusal>
     requires { 0 < length piece.old }
-    ensures ok { OnOk result (OfStream (I.remaining input.old) (I.remaining input.new) (λ bytes.
-        Done deltas K.takes K.ends bytes (place taker.old store.old output.old) (place taker.new store.new output.new))) }
-    ensures refused { IfErr result (λ e. OfStream (I.remaining input.old) (I.remaining input.new) (λ bytes.
-        Halts deltas K.takes K.refuses K.cant_end bytes (place taker.old store.old output.old) e
-        (place taker.new store.new output.new))) }
-    ensures peer { BothCounted result (counts I.failures I.reads input.old input.new) (K.failures output.old) (K.failures output.new) }
+    ensures ok { OnOk result (TakesDump I.Input K.Taker deltas input.old input.new (place taker.old store.old
+        output.old) (place taker.new store.new output.new)) }
+    ensures refused { IfErr result (λ e. HaltsDump I.Input K.Taker deltas input.old input.new
+        (place taker.old store.old output.old) e (place taker.new store.new output.new)) }
+    ensures peer { TellsEither I.Input input.old input.new K.failures output.old output.new result }
 {
     let mut reader = new_reader(alloc, deltas);
     read_all(alloc, taker, &mut reader, piece, store, output, input)?;
@@ -141,12 +133,11 @@ pub fn read_stream<S, O, K: Taker<S, O>, I: Input>(
     output: &mut O,
     input: &mut I,
 ) -> Result<(), Refusal>
-    ensures ok { OnOk result (OfStream (I.remaining input.old) (I.remaining input.new) (λ bytes.
-        Done deltas K.takes K.ends bytes (place taker.old store.old output.old) (place taker.new store.new output.new))) }
-    ensures refused { IfErr result (λ e. OfStream (I.remaining input.old) (I.remaining input.new) (λ bytes.
-        Halts deltas K.takes K.refuses K.cant_end bytes (place taker.old store.old output.old) e
-        (place taker.new store.new output.new))) }
-    ensures peer { BothCounted result (counts I.failures I.reads input.old input.new) (K.failures output.old) (K.failures output.new) }
+    ensures ok { OnOk result (TakesDump I.Input K.Taker deltas input.old input.new (place taker.old store.old
+        output.old) (place taker.new store.new output.new)) }
+    ensures refused { IfErr result (λ e. HaltsDump I.Input K.Taker deltas input.old input.new
+        (place taker.old store.old output.old) e (place taker.new store.new output.new)) }
+    ensures peer { TellsEither I.Input input.old input.new K.failures output.old output.new result }
 {
     match Vec::from_elem(alloc, 0u8, PIECE) {
         Ok(mut piece) => read_dump(
