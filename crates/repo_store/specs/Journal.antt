@@ -56,6 +56,10 @@ pub record IsBeginning (bytes : List ℕ) (identity : List ℕ) (props : PropMap
   pub canonical : bytes ≡ canon_head (Some identity) ++ canon_entry 0 props
   pub readable : Dump bytes (told.Identity identity ∷ told.Revision 0 props ∷ [])
 
+-- bytes that are no first entry
+abbrev pub IsNoBeginning : List ℕ → Type 0
+IsNoBeginning bytes = (identity : List ℕ) (props : PropMap) → IsBeginning bytes identity props → ⊥
+
 -- the revisions after a first entry
 abbrev pub begun : List ℕ → PropMap → List Revision
 begun identity props = with_entry (fresh identity).revisions (Mapped 0 props)

@@ -1,7 +1,9 @@
 pub mod Changes
 pub mod Journal
 pub mod Numbers
+pub mod Openings
 pub mod Readings
 pub mod Refusals
+pub mod Replays
 pub mod Verdicts
 pub mod Words

@@ -1,9 +1,11 @@
 -- The numbers of a store's faults, and the refusals that they are.
-use Rattle.std.specs.Prelude.{◌≡◌, ◌⊎◌, ℕ}
+use Rattle.std.specs.Prelude.{◌≡◌, ◌⊎◌, ◌≤◌, ℕ, List, length}
 use Rattle.gate_log.specs.Faults as log
 use Rattle.gate_log.specs.declared.fault.LogFault.{LogFault}
 use Rattle.gate_log.specs.declared.fault.LogFault.TheVariants.{DeviceFailed, Failed, Damaged, NoRepository, ThereAlready, LogFull, OutOfMemory}
 use Rattle.repo_core.specs.Refusals as core
+use Rattle.repo_core.specs.Repository.{Revision}
+use Rattle.repo_core.specs.declared.fault.RepoFault.TheVariants.{NoSuchRevision}
 pub use Rattle.repo_core.specs.Refusals.{repo_refusal}
 use Rattle.node_base.specs.declared.refusal.Refusal.{Refusal}
 use Rattle.node_base.specs.declared.refusal.Refusal.TheVariants as refusal
@@ -34,6 +36,18 @@ IsCreateFault (Log f) = (f ≡ DeviceFailed) ⊎ (f ≡ ThereAlready) ⊎ (f ≡
 abbrev pub IsOpenFault : StoreFault → Type 0
 IsOpenFault (Repo f) = ⊥
 IsOpenFault (Log f) = log.IsFindFault f
+
+-- the device failed (31), or memory ran out (70)
+abbrev pub IsHostFault : StoreFault → Type 0
+IsHostFault e = (e ≡ Log DeviceFailed) ⊎ (e ≡ Log OutOfMemory)
+
+-- what makes it one of the second version on an honest disk: 31, 32 or 70
+abbrev pub IsUpgradeFault : StoreFault → Type 0
+IsUpgradeFault e = (e ≡ Log DeviceFailed) ⊎ (e ≡ Log Failed) ⊎ (e ≡ Log OutOfMemory)
+
+-- why a revision isn't exported: it isn't there (21), or memory ran out (70)
+abbrev pub IsExportFault : List Revision → ℕ → StoreFault → Type 0
+IsExportFault x number e = ((e ≡ Repo NoSuchRevision) × (length x ≤ number)) ⊎ (e ≡ Log OutOfMemory)
 
 -- the refusal that a fault of the log is
 abbrev pub log_refusal : LogFault → Refusal

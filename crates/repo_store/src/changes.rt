@@ -1,17 +1,14 @@
 //! The changes of a store: an entry is made ready, and then installed.
-ghost use Rattle.std.specs.Prelude.{◌≡◌, ◌<◌, length, Option, None, IfOk, IfErr};
+ghost use Rattle.std.specs.Prelude.{◌≡◌, length, Option, None, IfOk, IfErr};
 ghost use Rattle.std.specs.Option.{option_copied};
-ghost use Rattle.gate_log.specs.Log.{entries_of, entry_of, version_of};
-ghost use Rattle.dump_load.specs.Trees.{Makes};
-ghost use Rattle.repo_core.specs.Repository.{Revision, props_at, trees_of};
+ghost use Rattle.repo_core.specs.Repository.{Revision};
 ghost use Rattle.repo_core.specs.Dates.{dated};
-ghost use Rattle.repo_core.specs.Refusals.{by_repository, change_fault, commit_fault, with_value};
 ghost use Rattle.repo_core.specs.Staging.{IsReady};
-ghost use Rattle.repo_core.specs.declared.entry.Entry.{Entry as EntryOf};
-ghost use Rattle.repo_core.specs.declared.entry.Entry.TheVariants.{Revised, Mapped};
-ghost use Rattle.repo_core.specs.declared.fault.RepoFault.{RepoFault as RepoFaultOf};
-ghost use Rattle.repo_store.specs.Changes.{Changes, Installs, IsJudged, IsNumbered, Stages};
-ghost use Rattle.repo_store.specs.Words.{entry_in, log_of, revisions_of, HasFailed, IsReadyFor};
+ghost use Rattle.repo_core.specs.declared.entry.Entry.TheVariants.{Mapped};
+ghost use Rattle.repo_store.specs.Changes.{next_entry, Installs, IsJudgedOver, IsJudgment, IsNumbered, KeepsVersion};
+ghost use Rattle.repo_store.specs.Changes.{Stages, StagesCommit, StagesEntry, StagesJudged, StagesProp, TakesCommit};
+ghost use Rattle.repo_store.specs.Changes.{TakesEntry, TakesProp};
+ghost use Rattle.repo_store.specs.Words.{entry_in, revisions_of, HasFailed, IsNextReceipt, IsReadyFor};
 
 use crate::spell::entry_bytes;
 use crate::{Committed, RepoStore, Staged, StoreFault};
@@ -30,8 +27,8 @@ impl<D: Disk> RepoStore<D> {
     /// set's first fault, 8); then an entry past the journal's limit (36); and want of memory (70).
     pub fn stage(&mut self, alloc: Global, entry: Entry) -> Result<Staged, StoreFault>
         requires numbered { IsNumbered (revisions_of self.old) entry }
-        ensures stages { Stages entry (by_repository (revisions_of self.old) entry) self.old self.new result }
-        ensures version { version_of (log_of self.new) ≡ version_of (log_of self.old) }
+        ensures stages { StagesEntry entry self.old self.new result }
+        ensures version { KeepsVersion self.old self.new }
     {
         let judged = judge(alloc, &self.repo, entry);
         self.ready(alloc, judged)
@@ -47,9 +44,8 @@ impl<D: Disk> RepoStore<D> {
         props: Props,
         moment: Option<Moment>,
     ) -> Result<Staged, StoreFault>
-        ensures stages { let entry = Revised (length (revisions_of self.old)) set (dated props moment) in
-            Stages entry (commit_fault (revisions_of self.old) base entry) self.old self.new result }
-        ensures version { version_of (log_of self.new) ≡ version_of (log_of self.old) }
+        ensures stages { StagesCommit base set (dated props moment) self.old self.new result }
+        ensures version { KeepsVersion self.old self.new }
     {
         let judged = self.repo.stage_commit(alloc, base, set, props, moment);
         self.ready(alloc, judged)
@@ -63,10 +59,9 @@ impl<D: Disk> RepoStore<D> {
         applied: Applied,
         props: Props,
     ) -> Result<Staged, StoreFault>
-        requires { Makes (trees_of (revisions_of self.old)) applied.set applied.tree }
-        ensures stages { let entry = Revised (length (revisions_of self.old)) applied.set props in
-            Stages entry (by_repository (revisions_of self.old) entry) self.old self.new result }
-        ensures version { version_of (log_of self.new) ≡ version_of (log_of self.old) }
+        requires { IsJudgedOver (revisions_of self.old) applied }
+        ensures stages { StagesEntry (next_entry (revisions_of self.old) applied.set props) self.old self.new result }
+        ensures version { KeepsVersion self.old self.new }
     {
         let judged = judge_applied(&self.repo, applied, props);
         self.ready(alloc, judged)
@@ -82,10 +77,9 @@ impl<D: Disk> RepoStore<D> {
         value: Option<&[u8]>,
         expected: &Expected,
     ) -> Result<Staged, StoreFault>
-        ensures stages { let value = option_copied value.entry in
-            Stages (Mapped number (with_value (props_at (revisions_of self.old) number) name.now value))
-            (change_fault (revisions_of self.old) number name.now value expected.now) self.old self.new result }
-        ensures version { version_of (log_of self.new) ≡ version_of (log_of self.old) }
+        ensures stages { StagesProp number name.now (option_copied value.entry) expected.now self.old self.new
+            result }
+        ensures version { KeepsVersion self.old self.new }
     {
         let judged = self
             .repo
@@ -99,8 +93,8 @@ impl<D: Disk> RepoStore<D> {
     pub fn install(&mut self, staged: Staged) -> Result<Receipt, StoreFault>
         requires { IsReadyFor self.old staged }
         ensures installed { Installs (entry_in staged) self.old self.new result }
-        ensures receipt { IfOk result (λ r. entry_of r ≡ length (entries_of (log_of self.old))) }
-        ensures version { version_of (log_of self.new) ≡ version_of (log_of self.old) }
+        ensures receipt { IfOk result (IsNextReceipt self.old) }
+        ensures version { KeepsVersion self.old self.new }
     {
         let Staged { change, bytes } = staged;
         match self.log.append(&bytes) {
@@ -124,11 +118,10 @@ impl<D: Disk> RepoStore<D> {
         props: Props,
         moment: Option<Moment>,
     ) -> Result<Committed, StoreFault>
-        ensures change { let entry = Revised (length (revisions_of self.old)) set (dated props moment) in
-            Changes entry (commit_fault (revisions_of self.old) base entry) self.old self.new result }
+        ensures change { TakesCommit base set (dated props moment) self.old self.new result }
         ensures number { IfOk result (λ c. c.number ≡ length (revisions_of self.old)) }
-        ensures receipt { IfOk result (λ c. entry_of c.receipt ≡ length (entries_of (log_of self.old))) }
-        ensures version { version_of (log_of self.new) ≡ version_of (log_of self.old) }
+        ensures receipt { IfOk result (λ c. IsNextReceipt self.old c.receipt) }
+        ensures version { KeepsVersion self.old self.new }
     {
         let staged = self.stage_commit(alloc, base, set, props, moment)?;
         let receipt = self.install(staged)?;
@@ -143,12 +136,11 @@ impl<D: Disk> RepoStore<D> {
         applied: Applied,
         props: Props,
     ) -> Result<Committed, StoreFault>
-        requires { Makes (trees_of (revisions_of self.old)) applied.set applied.tree }
-        ensures change { let entry = Revised (length (revisions_of self.old)) applied.set props in
-            Changes entry (by_repository (revisions_of self.old) entry) self.old self.new result }
+        requires { IsJudgedOver (revisions_of self.old) applied }
+        ensures change { TakesEntry (next_entry (revisions_of self.old) applied.set props) self.old self.new result }
         ensures number { IfOk result (λ c. c.number ≡ length (revisions_of self.old)) }
-        ensures receipt { IfOk result (λ c. entry_of c.receipt ≡ length (entries_of (log_of self.old))) }
-        ensures version { version_of (log_of self.new) ≡ version_of (log_of self.old) }
+        ensures receipt { IfOk result (λ c. IsNextReceipt self.old c.receipt) }
+        ensures version { KeepsVersion self.old self.new }
     {
         let staged = self.stage_applied(alloc, applied, props)?;
         let receipt = self.install(staged)?;
@@ -168,11 +160,9 @@ impl<D: Disk> RepoStore<D> {
         value: Option<&[u8]>,
         expected: &Expected,
     ) -> Result<Receipt, StoreFault>
-        ensures change { let value = option_copied value.entry in
-            Changes (Mapped number (with_value (props_at (revisions_of self.old) number) name.now value))
-            (change_fault (revisions_of self.old) number name.now value expected.now) self.old self.new result }
-        ensures receipt { IfOk result (λ r. entry_of r ≡ length (entries_of (log_of self.old))) }
-        ensures version { version_of (log_of self.new) ≡ version_of (log_of self.old) }
+        ensures change { TakesProp number name.now (option_copied value.entry) expected.now self.old self.new result }
+        ensures receipt { IfOk result (IsNextReceipt self.old) }
+        ensures version { KeepsVersion self.old self.new }
     {
         let staged = self.stage_change_prop(alloc, number, name, value, expected)?;
         self.install(staged)
@@ -185,10 +175,9 @@ impl<D: Disk> RepoStore<D> {
         number: RevNo,
         props: Props,
     ) -> Result<Receipt, StoreFault>
-        ensures change { let entry = Mapped number props in
-            Changes entry (by_repository (revisions_of self.old) entry) self.old self.new result }
-        ensures receipt { IfOk result (λ r. entry_of r ≡ length (entries_of (log_of self.old))) }
-        ensures version { version_of (log_of self.new) ≡ version_of (log_of self.old) }
+        ensures change { TakesEntry (Mapped number props) self.old self.new result }
+        ensures receipt { IfOk result (IsNextReceipt self.old) }
+        ensures version { KeepsVersion self.old self.new }
     {
         let staged = self.stage(alloc, Entry::Mapped { number, props })?;
         self.install(staged)
@@ -201,9 +190,8 @@ impl<D: Disk> RepoStore<D> {
         judged: Result<repo_core::Staged, RepoFault>,
     ) -> Result<Staged, StoreFault>
         requires ready { IfOk judged (IsReady (revisions_of self.old)) }
-        ensures stages { (entry : EntryOf) (refused : Option RepoFaultOf) → IsJudged entry refused judged
-            → Stages entry refused self.old self.new result }
-        ensures version { version_of (log_of self.new) ≡ version_of (log_of self.old) }
+        ensures stages { StagesJudged judged self.old self.new result }
+        ensures version { KeepsVersion self.old self.new }
     {
         if self.log.has_failed() {
             return Err(StoreFault::Log(LogFault::Failed));
@@ -220,7 +208,7 @@ impl<D: Disk> RepoStore<D> {
         requires working { ¬ HasFailed self.old }
         requires ready { IsReady (revisions_of self.old) change }
         ensures stages { Stages change.entry None self.old self.new result }
-        ensures version { version_of (log_of self.new) ≡ version_of (log_of self.old) }
+        ensures version { KeepsVersion self.old self.new }
     {
         let Ok(bytes) = entry_bytes(alloc, change.entry()) else {
             return Err(StoreFault::Log(LogFault::OutOfMemory));
@@ -238,9 +226,8 @@ fn judge_applied(
     applied: Applied,
     props: Props,
 ) -> Result<repo_core::Staged, RepoFault>
-    requires { Makes (trees_of repo.now.revisions) applied.set applied.tree }
-    ensures judged { let entry = Revised (length repo.now.revisions) applied.set props in
-        IsJudged entry (by_repository repo.now.revisions entry) result }
+    requires { IsJudgedOver repo.now.revisions applied }
+    ensures judged { IsJudgment repo.now.revisions (next_entry repo.now.revisions applied.set props) result }
     ensures ready { IfOk result (IsReady repo.now.revisions) }
 {
     repo.stage_applied(applied, props)
@@ -249,7 +236,7 @@ fn judge_applied(
 // What a repository makes of an entry.
 fn judge(alloc: Global, repo: &Repo, entry: Entry) -> Result<repo_core::Staged, RepoFault>
     requires numbered { IsNumbered repo.now.revisions entry }
-    ensures judged { IsJudged entry (by_repository repo.now.revisions entry) result }
+    ensures judged { IsJudgment repo.now.revisions entry result }
     ensures ready { IfOk result (IsReady repo.now.revisions) }
 {
     match entry {

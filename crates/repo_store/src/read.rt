@@ -1,18 +1,17 @@
 //! How entries are read.
-ghost use Rattle.std.specs.Prelude.{◌≡◌, ◌∷◌, ◌++◌, ◌↔◌, [], ℕ, List, map, true, false, Some, IfOk};
+ghost use Rattle.std.specs.Prelude.{◌≡◌, ◌↔◌, ℕ, List, false, Some, IfOk};
 ghost use Rattle.std.specs.Prelude.{IfErr, IfNone, IfSome};
-ghost use Rattle.std.specs.Prelude.{OnOk, IsErrOf, IsTrue};
+ghost use Rattle.std.specs.Prelude.{OnOk, IsTrue};
 ghost use Rattle.node_base.specs.Props.{PropMap};
-ghost use Rattle.dump_text.specs.Canon.{canon_revision};
 ghost use Rattle.dump_text.specs.Streams.{dump, reading, Reads, has_failed};
-ghost use Rattle.dump_text.specs.Written.{AreFormed, AreRecords, are_whole, read_revision};
-ghost use Rattle.dump_text.specs.declared.state.ReadState.{ReadState};
+ghost use Rattle.dump_text.specs.Written.{read_revision};
 ghost use Rattle.dump_text.specs.declared.record.DumpRecord.{DumpRecord as RecordOf};
 ghost use Rattle.dump_text.specs.declared.record.DumpRecord.TheVariants as told;
-ghost use Rattle.dump_text.specs.declared.record.NodeRecord.{NodeRecord as NodeOf};
 ghost use Rattle.repo_core.specs.declared.entry.Entry.{Entry as EntryOf};
-ghost use Rattle.repo_store.specs.Journal.{IsBeginning, Spells};
-ghost use Rattle.repo_store.specs.Readings.{records_of, so_far, AreReadAs, IsDumpOf, IsRevisionOf};
+ghost use Rattle.repo_store.specs.Journal.{IsBeginning, IsNoBeginning, Spells};
+ghost use Rattle.repo_store.specs.Readings.{records_of, AreNoBeginning, AreNoRevision, AreReadAs, BeginAs};
+ghost use Rattle.repo_store.specs.Readings.{BreaksRevision, CantGoOn, IsBad, IsCanonical, IsDumpOf, IsJoined};
+ghost use Rattle.repo_store.specs.Readings.{IsReadable, IsRevisionOf};
 
 use crate::spell;
 use byte_streams::VecWriter;
@@ -62,8 +61,7 @@ fn feed(
     requires { has_failed reader.old ≡ false }
     ensures reads { OnOk result (reading (Reads records.old.items reader.old) piece.now ≡ Reads records.new.items
         reader.new) }
-    ensures bad { IsErrOf result ReadFault.Bad → (rs : List RecordOf) (r : ReadState)
-        → reading (Reads records.old.items reader.old) piece.now ≡ Reads rs r → ⊥ }
+    ensures bad { IsBad result → CantGoOn records.old.items reader.old piece.now }
 {
     match reader.feed(piece, records) {
         Ok(()) => Ok(()),
@@ -75,7 +73,7 @@ fn feed(
 // The records of a dump's bytes.
 fn records_in(alloc: Global, bytes: &[u8]) -> Result<Vec<DumpRecord>, ReadFault>
     ensures read { IfOk result (λ rs. IsDumpOf bytes.now rs.items) }
-    ensures bad { IsErrOf result ReadFault.Bad → (rs : List RecordOf) → IsDumpOf bytes.now rs → ⊥ }
+    ensures bad { IsBad result → (rs : List RecordOf) → IsDumpOf bytes.now rs → ⊥ }
 {
     let mut reader = DumpReader::new(alloc);
     let mut records = Vec::new(alloc);
@@ -86,7 +84,7 @@ fn records_in(alloc: Global, bytes: &[u8]) -> Result<Vec<DumpRecord>, ReadFault>
 // The records of bytes behind the version block.
 fn records_behind(alloc: Global, bytes: &[u8]) -> Result<Vec<DumpRecord>, ReadFault>
     ensures read { IfOk result (λ rs. AreReadAs bytes.now rs.items) }
-    ensures bad { IsErrOf result ReadFault.Bad → (rs : List RecordOf) → AreReadAs bytes.now rs → ⊥ }
+    ensures bad { IsBad result → (rs : List RecordOf) → AreReadAs bytes.now rs → ⊥ }
 {
     let mut reader = DumpReader::behind_version(alloc);
     let mut records = Vec::new(alloc);
@@ -102,10 +100,8 @@ fn first(
     number: RevNo,
     props: Props,
 ) -> Result<RevRecord, ReadFault>
-    ensures joined { IfOk result (λ r. records_of r ≡ so_far revision ++ told.Revision number props ∷ []) }
-    ensures bad { IsErrOf result ReadFault.Bad → (rest : List RecordOf) (n : ℕ) (ps : PropMap) (nodes : List NodeOf)
-        → so_far revision ++ told.Revision number props ∷ rest ≡ told.Revision n ps ∷ map told.Node nodes
-        → ⊥ }
+    ensures joined { IfOk result (IsJoined revision (told.Revision number props)) }
+    ensures bad { IsBad result → BreaksRevision revision (told.Revision number props) }
     ensures no_other { IfErr result (λ e. e ≡ ReadFault.Bad) }
 {
     match revision {
@@ -121,9 +117,8 @@ fn first(
 // A node more of one revision.
 #[tactic(auto, using(crate::proofs::Reading::early_node))]
 fn node_more(revision: Option<RevRecord>, node: NodeRecord) -> Result<RevRecord, ReadFault>
-    ensures joined { IfOk result (λ r. records_of r ≡ so_far revision ++ told.Node node ∷ []) }
-    ensures bad { IsErrOf result ReadFault.Bad → (rest : List RecordOf) (n : ℕ) (ps : PropMap) (nodes : List NodeOf)
-        → so_far revision ++ told.Node node ∷ rest ≡ told.Revision n ps ∷ map told.Node nodes → ⊥ }
+    ensures joined { IfOk result (IsJoined revision (told.Node node)) }
+    ensures bad { IsBad result → BreaksRevision revision (told.Node node) }
 {
     match revision {
         Some(revision) => {
@@ -142,9 +137,8 @@ fn join(
     revision: Option<RevRecord>,
     next: DumpRecord,
 ) -> Result<RevRecord, ReadFault>
-    ensures joined { IfOk result (λ r. records_of r ≡ so_far revision ++ next ∷ []) }
-    ensures bad { IsErrOf result ReadFault.Bad → (rest : List RecordOf) (n : ℕ) (ps : PropMap) (nodes : List NodeOf)
-        → so_far revision ++ next ∷ rest ≡ told.Revision n ps ∷ map told.Node nodes → ⊥ }
+    ensures joined { IfOk result (IsJoined revision next) }
+    ensures bad { IsBad result → BreaksRevision revision next }
 {
     match next {
         DumpRecord::Revision(number, props) => first(alloc, revision, number, props),
@@ -158,8 +152,7 @@ fn join(
 #[tactic(auto, using(crate::proofs::Reading::no_record))]
 fn revision_of(alloc: Global, records: Vec<DumpRecord>) -> Result<RevRecord, ReadFault>
     ensures read { IfOk result (λ r. records_of r ≡ records.items) }
-    ensures bad { IsErrOf result ReadFault.Bad → (n : ℕ) (props : PropMap) (nodes : List NodeOf)
-        → records.items ≡ told.Revision n props ∷ map told.Node nodes → ⊥ }
+    ensures bad { IsBad result → AreNoRevision records.items }
 {
     let mut revision = None;
     for next in records {
@@ -178,10 +171,8 @@ fn is_canonical(
     bytes: &[u8],
     written: &mut VecWriter,
 ) -> Result<bool, AllocError>
-    ensures holds { IfOk result (λ b. IsTrue b ↔ ((are_whole revision.now.nodes.items ≡ true)
-        × (canon_revision revision.now ≡ bytes.now))) }
-    ensures readable { IfOk result (λ b. IsTrue b → AreFormed revision.now.nodes.items
-        → AreRecords (canon_revision revision.now) (read_revision revision.now)) }
+    ensures holds { IfOk result (λ b. IsTrue b ↔ IsCanonical revision.now bytes.now) }
+    ensures readable { IfOk result (λ b. IsTrue b → IsReadable revision.now) }
 {
     if !revision.is_whole() {
         return Ok(false);
@@ -202,7 +193,7 @@ pub fn read_revision(
     written: &mut VecWriter,
 ) -> Result<RevRecord, ReadFault>
     ensures read { IfOk result (IsRevisionOf bytes.now) }
-    ensures bad { IsErrOf result ReadFault.Bad → (e : EntryOf) → Spells bytes.now e → ⊥ }
+    ensures bad { IsBad result → (e : EntryOf) → Spells bytes.now e → ⊥ }
 {
     dumps_are_read();
     let records = records_behind(alloc, bytes)?;
@@ -245,9 +236,8 @@ fn zero_in(said: DumpRecord) -> Option<Props>
 
 // The identity and the properties that two records say.
 fn beginning_of(records: Vec<DumpRecord>) -> Option<(Uuid, Props)>
-    ensures read { IfSome result (λ p. records.items ≡ told.Identity p.0 ∷ told.Revision 0 p.1 ∷ []) }
-    ensures bad { IfNone result ((identity : List ℕ) (props : PropMap)
-        → records.items ≡ told.Identity identity ∷ told.Revision 0 props ∷ [] → ⊥) }
+    ensures read { IfSome result (λ p. BeginAs records.items p.0 p.1) }
+    ensures bad { IfNone result (AreNoBeginning records.items) }
 {
     let mut records = records;
     if records.len() != 2 {
@@ -263,8 +253,7 @@ fn beginning_of(records: Vec<DumpRecord>) -> Option<(Uuid, Props)>
 #[tactic(auto, using(crate::proofs::Reading::is_beginning))]
 pub fn read_beginning(alloc: Global, bytes: &[u8]) -> Result<(Uuid, Props), ReadFault>
     ensures read { IfOk result (λ p. IsBeginning bytes.now p.0 p.1) }
-    ensures bad { IsErrOf result ReadFault.Bad → (identity : List ℕ) (props : PropMap)
-        → IsBeginning bytes.now identity props → ⊥ }
+    ensures bad { IsBad result → IsNoBeginning bytes.now }
 {
     dumps_are_read();
     let records = records_in(alloc, bytes)?;

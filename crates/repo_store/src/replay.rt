@@ -1,22 +1,22 @@
 //! The repository that a journal's entries stand for.
-ghost use Rattle.std.specs.Prelude.{◌≡◌, ◌<◌, ◌+◌, ℕ, List, map};
-ghost use Rattle.std.specs.Prelude.{length, slice_get, Some};
-ghost use Rattle.std.specs.Prelude.{None, IfOk, IfErr, OnOk, IsErrOf};
+ghost use Rattle.std.specs.Prelude.{◌≡◌, ◌<◌, ◌+◌, map};
+ghost use Rattle.std.specs.Prelude.{length};
+ghost use Rattle.std.specs.Prelude.{None, IfOk, IfErr, OnOk};
 ghost use Rattle.std.specs.Option.{option_map};
-ghost use Rattle.node_base.specs.Props.{PropMap};
 ghost use Rattle.dump_load.specs.Bounds.{IsBounded};
 ghost use Rattle.dump_load.specs.Changes.{IsSet};
 ghost use Rattle.dump_load.specs.Records.{change_of};
-ghost use Rattle.gate_log.specs.Device.{IsFailure};
-ghost use Rattle.gate_log.specs.Log.{disk_of, ends_of, entries_of, HasFailed, LooksIn};
+ghost use Rattle.gate_log.specs.Log.{ends_of, entries_of, HasFailed, IsHonest, LooksIn};
 ghost use Rattle.gate_log.specs.declared.fault.LogFault.TheVariants as log_fault;
-ghost use Rattle.repo_core.specs.Repository.{Revision, Repository, fresh};
+ghost use Rattle.repo_core.specs.Repository.{Revision, Repository};
 ghost use Rattle.repo_core.specs.Entries.{with_entry_in};
-ghost use Rattle.repo_core.specs.Refusals.{by_repository};
-ghost use Rattle.repo_core.specs.declared.entry.Entry.{Entry as EntryOf};
-ghost use Rattle.repo_core.specs.declared.entry.Entry.TheVariants.{Revised, Mapped};
+ghost use Rattle.repo_core.specs.declared.entry.Entry.TheVariants.{Mapped};
 ghost use Rattle.repo_store.specs.Refusals.{IsReplayFault};
-ghost use Rattle.repo_store.specs.Journal.{IsBeginning, Spells, Takes, Tell, IsFirstBad};
+ghost use Rattle.repo_store.specs.Changes.{next_entry};
+ghost use Rattle.repo_store.specs.Journal.{Tell, IsFirstBad, IsNoBeginning};
+ghost use Rattle.repo_store.specs.Readings.{IsBad};
+ghost use Rattle.repo_store.specs.Replays.{Accepts, BeginsNone, BreaksAt, IfDamaged, IsBegunBy, IsBegunIn};
+ghost use Rattle.repo_store.specs.Replays.{IsLogFailure, TakesAt, TakesIn, TakesNone};
 
 use crate::read::{ReadFault, read_beginning, read_revision};
 use byte_streams::VecWriter;
@@ -46,7 +46,7 @@ fn changes_of(alloc: Global, nodes: Vec<NodeRecord>) -> Result<Vec<Change>, Allo
 fn set_of(alloc: Global, nodes: Vec<NodeRecord>) -> Result<ChangeSet, ReadFault>
     ensures set { IfOk result (λ s. s ≡ map change_of nodes.items) }
     ensures bounded { OnOk result (IsBounded (map change_of nodes.items)) }
-    ensures bad { IsErrOf result ReadFault.Bad → IsSet (map change_of nodes.items) → ⊥ }
+    ensures bad { IsBad result → IsSet (map change_of nodes.items) → ⊥ }
 {
     let changes = changes_of(alloc, nodes)?;
     match ChangeSet::from_changes(changes) {
@@ -57,11 +57,8 @@ fn set_of(alloc: Global, nodes: Vec<NodeRecord>) -> Result<ChangeSet, ReadFault>
 
 // The repository after its first entry.
 fn begin(alloc: Global, bytes: &[u8]) -> Result<Repo, ReadFault>
-    ensures begun { IfOk result (λ r. (identity : List ℕ) × (props : PropMap)
-        × IsBeginning bytes.now identity props
-        × (r ≡ with_entry_in (fresh identity) (Mapped 0 props))) }
-    ensures bad { IsErrOf result ReadFault.Bad → (identity : List ℕ) (props : PropMap)
-        → IsBeginning bytes.now identity props → ⊥ }
+    ensures begun { IfOk result (IsBegunBy bytes.now) }
+    ensures bad { IsBad result → IsNoBeginning bytes.now }
 {
     let (identity, props) = read_beginning(alloc, bytes)?;
     let mut repo = Repo::new(alloc, identity)?;
@@ -74,9 +71,8 @@ fn begin(alloc: Global, bytes: &[u8]) -> Result<Repo, ReadFault>
 // Other properties for a revision that is there.
 fn take_map(repo: &mut Repo, number: RevNo, props: Props) -> Result<(), ReadFault>
     ensures taken { OnOk result (repo.new ≡ with_entry_in repo.old (Mapped number props)) }
-    ensures accepted { OnOk result (by_repository repo.old.revisions (Mapped number props) ≡ None) }
-    ensures bad { IsErrOf result ReadFault.Bad → by_repository repo.old.revisions (Mapped number props) ≡ None
-        → ⊥ }
+    ensures accepted { OnOk result (Accepts repo.old (Mapped number props)) }
+    ensures bad { IsBad result → Accepts repo.old (Mapped number props) → ⊥ }
     ensures no_other { IfErr result (λ e. e ≡ ReadFault.Bad) }
 {
     match repo.put_props(number, props) {
@@ -87,11 +83,9 @@ fn take_map(repo: &mut Repo, number: RevNo, props: Props) -> Result<(), ReadFaul
 
 // The revision after the head.
 fn take_set(alloc: Global, repo: &mut Repo, set: ChangeSet, props: Props) -> Result<(), ReadFault>
-    ensures taken { OnOk result (repo.new ≡ with_entry_in repo.old (Revised (length repo.old.revisions) set props)) }
-    ensures accepted { OnOk result (by_repository repo.old.revisions
-        (Revised (length repo.old.revisions) set props) ≡ None) }
-    ensures bad { IsErrOf result ReadFault.Bad
-        → by_repository repo.old.revisions (Revised (length repo.old.revisions) set props) ≡ None → ⊥ }
+    ensures taken { OnOk result (repo.new ≡ with_entry_in repo.old (next_entry repo.old.revisions set props)) }
+    ensures accepted { OnOk result (Accepts repo.old (next_entry repo.old.revisions set props)) }
+    ensures bad { IsBad result → Accepts repo.old (next_entry repo.old.revisions set props) → ⊥ }
 {
     match repo.stage_commit(alloc, repo.head(), set, props, None) {
         Ok(staged) => {
@@ -110,10 +104,8 @@ fn take_entry(
     bytes: &[u8],
     written: &mut VecWriter,
 ) -> Result<(), ReadFault>
-    ensures taken { OnOk result ((e : EntryOf) × Spells bytes.now e × Takes repo.old.revisions e
-        × (repo.new ≡ with_entry_in repo.old e)) }
-    ensures bad { IsErrOf result ReadFault.Bad → (e : EntryOf) → Spells bytes.now e → Takes repo.old.revisions e
-        → ⊥ }
+    ensures taken { OnOk result (TakesIn bytes.now repo.old repo.new) }
+    ensures bad { IsBad result → TakesNone bytes.now repo.old }
 {
     dumps_are_read();
     let RevRecord {
@@ -156,16 +148,11 @@ fn read_next<D: Disk>(
 ) -> Result<(), LogFault>
     requires there { entry < length (ends_of log.old) }
     requires working { ¬ HasFailed log.old }
-    ensures taken { D.honest (disk_of log.old)
-        → OnOk result ((bytes : List ℕ) × (e : EntryOf) × (slice_get (entries_of log.old) entry ≡ Some bytes)
-        × Spells bytes e × Takes repo.old.revisions e × (repo.new ≡ with_entry_in repo.old e)) }
-    ensures damaged { D.honest (disk_of log.old) → (k : ℕ) → IsErrOf result (log_fault.Damaged k)
-        → k ≡ entry }
-    ensures breaks { D.honest (disk_of log.old) → (k : ℕ) → IsErrOf result (log_fault.Damaged k)
-        → (bytes : List ℕ) (e : EntryOf) → slice_get (entries_of log.old) entry ≡ Some bytes → Spells bytes e
-        → Takes repo.old.revisions e → ⊥ }
+    ensures taken { IsHonest log.old → OnOk result (TakesAt entry (entries_of log.old) repo.old repo.new) }
+    ensures damaged { IsHonest log.old → IfDamaged result (λ k. k ≡ entry) }
+    ensures breaks { IsHonest log.old → IfDamaged result (λ _. BreaksAt entry (entries_of log.old) repo.old) }
     ensures looks { LooksIn log.old log.new }
-    ensures device { IsFailure D.Disk (disk_of log.old) (disk_of log.new) result }
+    ensures device { IsLogFailure log.old log.new result }
     ensures working { OnOk result (¬ HasFailed log.new) }
     ensures no_other { IfErr result IsReplayFault }
 {
@@ -180,16 +167,11 @@ fn read_next<D: Disk>(
 fn read_first<D: Disk>(alloc: Global, log: &mut GateLog<D>) -> Result<Repo, LogFault>
     requires there { 0 < length (ends_of log.old) }
     requires working { ¬ HasFailed log.old }
-    ensures begun { D.honest (disk_of log.old)
-        → IfOk result (λ r. (bytes : List ℕ) × (props : PropMap)
-        × (slice_get (entries_of log.old) 0 ≡ Some bytes)
-        × IsBeginning bytes r.identity props × (r ≡ with_entry_in (fresh r.identity) (Mapped 0 props))) }
-    ensures damaged { D.honest (disk_of log.old) → (k : ℕ) → IsErrOf result (log_fault.Damaged k) → k ≡ 0 }
-    ensures breaks { D.honest (disk_of log.old) → (k : ℕ) → IsErrOf result (log_fault.Damaged k)
-        → (bytes identity : List ℕ) (props : PropMap) → slice_get (entries_of log.old) 0 ≡ Some bytes
-        → IsBeginning bytes identity props → ⊥ }
+    ensures begun { IsHonest log.old → IfOk result (IsBegunIn (entries_of log.old)) }
+    ensures damaged { IsHonest log.old → IfDamaged result (λ k. k ≡ 0) }
+    ensures breaks { IsHonest log.old → IfDamaged result (λ _. BeginsNone (entries_of log.old)) }
     ensures looks { LooksIn log.old log.new }
-    ensures device { IsFailure D.Disk (disk_of log.old) (disk_of log.new) result }
+    ensures device { IsLogFailure log.old log.new result }
     ensures working { OnOk result (¬ HasFailed log.new) }
     ensures no_other { IfErr result IsReplayFault }
 {
@@ -204,11 +186,10 @@ fn read_first<D: Disk>(alloc: Global, log: &mut GateLog<D>) -> Result<Repo, LogF
 pub fn replay<D: Disk>(alloc: Global, log: &mut GateLog<D>) -> Result<Repo, LogFault>
     requires there { 0 < length (ends_of log.old) }
     requires working { ¬ HasFailed log.old }
-    ensures told { D.honest (disk_of log.old) → IfOk result (λ r. Tell (entries_of log.old) r) }
-    ensures damaged { D.honest (disk_of log.old) → (k : ℕ) → IsErrOf result (log_fault.Damaged k)
-        → IsFirstBad k (entries_of log.old) }
+    ensures told { IsHonest log.old → IfOk result (Tell (entries_of log.old)) }
+    ensures damaged { IsHonest log.old → IfDamaged result (λ k. IsFirstBad k (entries_of log.old)) }
     ensures looks { LooksIn log.old log.new }
-    ensures device { IsFailure D.Disk (disk_of log.old) (disk_of log.new) result }
+    ensures device { IsLogFailure log.old log.new result }
     ensures working { OnOk result (¬ HasFailed log.new) }
     ensures no_other { IfErr result IsReplayFault }
 {

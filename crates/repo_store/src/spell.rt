@@ -1,10 +1,11 @@
 //! How entries are written.
 ghost use Rattle.std.specs.Prelude.{◌≡◌, ◌∷◌, ◌++◌, [], IfOk, OnOk, None};
 ghost use Rattle.dump_text.specs.Canon.{canon_entry, canon_revision};
-ghost use Rattle.dump_text.specs.Written.{AreFormed, AreRecords, read_revision};
+ghost use Rattle.dump_text.specs.Written.{AreRecords};
 ghost use Rattle.dump_text.specs.declared.record.DumpRecord.TheVariants as told;
 ghost use Rattle.repo_core.specs.declared.entry.Entry.TheVariants.{Revised, Mapped};
 ghost use Rattle.repo_store.specs.Journal.{spelling, HasSet, Spells, IsBeginning};
+ghost use Rattle.repo_store.specs.Readings.{IsReadable};
 
 use byte_streams::VecWriter;
 use dump_load::ChangeSet;
@@ -64,8 +65,7 @@ fn map_bytes(alloc: Global, number: RevNo, props: &Props) -> Result<Vec<u8>, All
 // The canonical spelling of a revision.
 fn text_of(alloc: Global, revision: &RevRecord) -> Result<Vec<u8>, AllocError>
     ensures canonical { IfOk result (λ v. v.items ≡ canon_revision revision.now) }
-    ensures readable { OnOk result (AreFormed revision.now.nodes.items
-        → AreRecords (canon_revision revision.now) (read_revision revision.now)) }
+    ensures readable { OnOk result (IsReadable revision.now) }
 {
     let mut out = VecWriter::with_room(alloc, revision.room())?;
     if write_revision(&mut out, revision).is_err() {

@@ -1,24 +1,22 @@
 //! The store.
-ghost use Rattle.std.specs.Prelude.{◌≡◌, ◌≢◌, ◌<◌, ◌≤◌, ◌^◌, ◌↔◌, ◌⊎◌, ◌∷◌};
-ghost use Rattle.std.specs.Prelude.{[], ℕ, List, length};
+ghost use Rattle.std.specs.Prelude.{◌≡◌, ◌≢◌, ◌<◌, ◌≤◌, ◌^◌, ◌↔◌, ◌∷◌};
+ghost use Rattle.std.specs.Prelude.{[], ℕ, length};
 ghost use Rattle.std.specs.Prelude.{IsTrue, Some, None, is_some, IfOk, IfErr, OnOk, IsErr};
 ghost use Rattle.std.specs.Option.{option_copied};
 ghost use Rattle.std.specs.FinMap as finite;
 ghost use Rattle.fleet_disk.specs.Image.{Image, no_bytes};
-ghost use Rattle.fleet_disk.specs.Rules.{Only, Rose};
-ghost use Rattle.gate_log.specs.Device.{Leaves, LeavesNow};
-ghost use Rattle.gate_log.specs.Log.{entries_of, version_of, disk_of as log_disk, HasFailed as LogFailed};
+ghost use Rattle.fleet_disk.specs.Rules.{Only};
+ghost use Rattle.gate_log.specs.Log.{entries_of, disk_of as log_disk, HasFailed as LogFailed};
 ghost use Rattle.gate_log.specs.Looks.{Looks};
-ghost use Rattle.gate_log.specs.Standing.{HasNoEntry, IsBlank, IsEither, Stands, StandsAlike};
-ghost use Rattle.gate_log.specs.Version.{HaveOneVersion, IsOf};
+ghost use Rattle.gate_log.specs.Standing.{HasNoEntry};
+ghost use Rattle.gate_log.specs.Version.{IsOf};
 ghost use Rattle.gate_log.specs.declared.version.LogVersion.TheVariants.{Second};
-ghost use Rattle.repo_core.specs.Repository.{Revision, fresh};
-ghost use Rattle.repo_store.specs.Journal.{doubt_in, Tell, Keeps, KeepsOr, ReopensTo, IsDamaged, IsExport, IsBeginning};
-ghost use Rattle.repo_store.specs.Journal.{beginning_of, KeepsAlike};
-ghost use Rattle.repo_store.specs.Refusals.{IsCreateFault, IsOpenFault};
+ghost use Rattle.repo_core.specs.Repository.{fresh};
+ghost use Rattle.repo_store.specs.Journal.{doubt_in, Tell, Keeps, KeepsOr, IsDamaged, IsExport, IsBeginning};
+ghost use Rattle.repo_store.specs.Journal.{beginning_of};
+ghost use Rattle.repo_store.specs.Refusals.{IsCreateFault, IsExportFault, IsOpenFault};
 ghost use Rattle.repo_store.specs.declared.fault.StoreFault.TheVariants as refusal;
 ghost use Rattle.gate_log.specs.declared.fault.LogFault.TheVariants as log;
-ghost use Rattle.repo_core.specs.declared.fault.RepoFault.TheVariants as core;
 
 use crate::StoreFault;
 use crate::replay::replay;
@@ -47,8 +45,12 @@ pub struct RepoStore<D: Disk> {
 }
 
 impl<D: Disk> RepoStore<D> {
-    ghost use Rattle.repo_store.specs.Words.{disk_of, doubt_of, log_of, repository_of, revisions_of, identity_of};
-    ghost use Rattle.repo_store.specs.Words.{HasFailed, IsKept};
+    ghost use Rattle.repo_store.specs.Words.{disk_of, doubt_of, entries_in, repository_of, revisions_of, version_in};
+    ghost use Rattle.repo_store.specs.Words.{HasFailed, IfSound, IsKept, LeavesEntries, ReopensAs, StopKeeps};
+    ghost use Rattle.repo_store.specs.Words.{StopLeaves};
+    ghost use Rattle.repo_store.specs.Openings.{AreHonest, MayBegin, FailsOn, HandsBack, IfBack, IfFault, IfMade};
+    ghost use Rattle.repo_store.specs.Openings.{IsDeviceFault, KeepsThrough, RefusesDamaged, RefusesWhole};
+    ghost use Rattle.repo_store.specs.Openings.{Reopens, TellsDamage, VersionStays};
 
     /// Begins a repository of revision 0 alone, without properties, on a disk of empty files, its log of the second
     /// version; from Ok on a stop leaves its first entry and no other. Until then a stop leaves no entry, with one gate at most where nothing was
@@ -59,31 +61,26 @@ impl<D: Disk> RepoStore<D> {
     /// each moment too. After 70 it is the disk that was given.
     pub fn create(alloc: Global, disk: D, identity: Uuid) -> Result<RepoStore<D>, (StoreFault, D)>
         ensures made { IfOk result (λ store. repository_of store ≡ fresh identity) }
-        ensures version { IfOk result (λ store. version_of (log_of store) ≡ Second) }
+        ensures version { IfOk result (λ store. version_in store ≡ Second) }
         ensures working { IfOk result (λ store. ¬ HasFailed store) }
-        ensures durable { D.honest disk → IfOk result (λ store. LeavesNow D.Disk (disk_of store) (Keeps (fresh identity))) }
-        ensures first { D.honest disk → IfOk result (λ store. (image : Image) → D.may_leave (disk_of store) image
-            → Stands image (beginning_of identity ∷ [])) }
-        ensures written { D.honest disk → IfOk result (λ store. entries_of (log_of store)
-            ≡ beginning_of identity ∷ []) }
-        ensures any_moment { D.honest disk → Only no_bytes (D.may_leave disk) → IfOk result (λ store.
-            Leaves D.Disk disk (disk_of store)
-            (λ c. IsBlank c ⊎ IsEither [] (beginning_of identity) c)) }
-        ensures any_moment_err { D.honest disk → Only no_bytes (D.may_leave disk) → IfErr result (λ e.
-            Leaves D.Disk disk e.1 (λ c. IsBlank c ⊎ IsEither [] (beginning_of identity) c)) }
-        ensures looks { D.honest disk → D.reads disk ≢ no_bytes
-            → IfErr result (λ e. Looks D.Disk disk e.1) }
+        ensures durable { D.honest disk → IfOk result (λ store. StopLeaves store (Keeps (fresh identity))) }
+        ensures first { D.honest disk → IfOk result (λ store. LeavesEntries store (beginning_of identity ∷ [])) }
+        ensures written { D.honest disk → IfOk result (λ store. entries_in store ≡ beginning_of identity ∷ []) }
+        ensures any_moment { D.honest disk → Only no_bytes (D.may_leave disk)
+            → IfMade result (MayBegin D.Disk identity disk) }
+        ensures any_moment_err { D.honest disk → Only no_bytes (D.may_leave disk)
+            → IfBack result (MayBegin D.Disk identity disk) }
+        ensures looks { D.honest disk → D.reads disk ≢ no_bytes → IfBack result (Looks D.Disk disk) }
         ensures empty { D.honest disk → OnOk result (D.reads disk ≡ no_bytes) }
-        ensures there { D.honest disk → IfErr result (λ e. e.0 ≡ refusal.Log log.ThereAlready
-            → D.reads disk ≢ no_bytes) }
-        ensures device { IfErr result (λ e. e.0 ≡ refusal.Log log.DeviceFailed
-            → Rose (D.failures disk) (D.failures e.1)) }
+        ensures there { D.honest disk
+            → IfFault result (λ e. e ≡ refusal.Log log.ThereAlready → D.reads disk ≢ no_bytes) }
+        ensures device { IsDeviceFault D.Disk disk result }
         ensures memory { IfErr result (λ e. e.0 ≡ refusal.Log log.OutOfMemory → e.1 ≡ disk) }
-        ensures no_other { IfErr result (λ e. IsCreateFault e.0) }
-        ensures honest { IfOk result (λ store. D.honest disk ↔ D.honest (disk_of store)) }
-        ensures honest_err { IfErr result (λ e. D.honest disk ↔ D.honest e.1) }
-        ensures later { IfOk result (λ store. D.failures disk ≤ D.failures (disk_of store)) }
-        ensures later_err { IfErr result (λ e. D.failures disk ≤ D.failures e.1) }
+        ensures no_other { IfFault result IsCreateFault }
+        ensures honest { IfMade result (AreHonest D.Disk disk) }
+        ensures honest_err { IfBack result (AreHonest D.Disk disk) }
+        ensures later { IfMade result (FailsOn D.Disk disk) }
+        ensures later_err { IfBack result (FailsOn D.Disk disk) }
     {
         let (repo, bytes) = match prepare(alloc, identity) {
             Ok(prepared) => prepared,
@@ -110,45 +107,29 @@ impl<D: Disk> RepoStore<D> {
     /// log stays: at no moment of an opening does a stop leave another than that of what a read gave, but for what it
     /// could leave before.
     pub fn open(alloc: Global, disk: D) -> Result<RepoStore<D>, (StoreFault, D)>
-        ensures stands { D.honest disk → IfOk result (λ store. ReopensTo (identity_of store) (revisions_of store)
-            (D.reads disk)) }
+        ensures stands { D.honest disk → IfOk result (λ store. ReopensAs store (D.reads disk)) }
         ensures keeps { D.honest disk → IfOk result (λ store. Keeps (repository_of store) (D.reads disk)) }
         ensures working { IfOk result (λ store. ¬ HasFailed store) }
-        ensures durable { D.honest disk → IfOk result (λ store. LeavesNow D.Disk (disk_of store) (Keeps (repository_of store))) }
-        ensures found { D.honest disk → (identity : List ℕ) (x : List Revision)
-            → ReopensTo identity x (D.reads disk)
-            → IfOk result (λ store. (identity_of store ≡ identity) × (revisions_of store ≡ x)) }
-        ensures refused { D.honest disk → (identity : List ℕ) (x : List Revision)
-            → ReopensTo identity x (D.reads disk)
-            → IfErr result (λ e. (e.0 ≡ refusal.Log log.DeviceFailed) ⊎ (e.0 ≡ refusal.Log log.OutOfMemory)) }
-        ensures damaged { D.honest disk → (entry : ℕ)
-            → IfErr result (λ e. e.0 ≡ refusal.Log (log.Damaged entry) → IsDamaged entry (D.reads disk)) }
+        ensures durable { D.honest disk → IfOk result StopKeeps }
+        ensures found { D.honest disk → Reopens (D.reads disk) result }
+        ensures refused { D.honest disk → RefusesWhole (D.reads disk) result }
+        ensures damaged { D.honest disk → TellsDamage (D.reads disk) result }
         ensures stopped { D.honest disk → (entry : ℕ) → IsDamaged entry (D.reads disk) → IsErr result }
-        ensures first { D.honest disk → (entry : ℕ) → IsDamaged entry (D.reads disk)
-            → IfErr result (λ e. (e.0 ≡ refusal.Log (log.Damaged entry)) ⊎ (e.0 ≡ refusal.Log log.DeviceFailed)
-            ⊎ (e.0 ≡ refusal.Log log.OutOfMemory)) }
-        ensures missing { D.honest disk → IfErr result (λ e. e.0 ≡ refusal.Log log.NoRepository
-            → HasNoEntry (D.reads disk)) }
-        ensures device { IfErr result (λ e. e.0 ≡ refusal.Log log.DeviceFailed
-            → Rose (D.failures disk) (D.failures e.1)) }
-        ensures no_other { IfErr result (λ e. IsOpenFault e.0) }
-        ensures any_moment { D.honest disk
-            → IfOk result (λ store. Leaves D.Disk disk (disk_of store)
-            (λ c. D.may_leave disk c ⊎ KeepsAlike (D.reads disk) c)) }
-        ensures any_moment_err { D.honest disk → IfErr result (λ e. Leaves D.Disk disk e.1
-            (λ c. D.may_leave disk c ⊎ KeepsAlike (D.reads disk) c)) }
-        ensures version { D.honest disk → IfOk result (λ store. IsOf (version_of (log_of store)) (D.reads disk)) }
-        ensures version_stays { D.honest disk
-            → IfOk result (λ store. Leaves D.Disk disk (disk_of store)
-            (λ c. D.may_leave disk c ⊎ HaveOneVersion (D.reads disk) c)) }
-        ensures version_stays_err { D.honest disk → IfErr result (λ e. Leaves D.Disk disk e.1
-            (λ c. D.may_leave disk c ⊎ HaveOneVersion (D.reads disk) c)) }
-        ensures kept { D.honest disk → IfErr result (λ e. (e.0 ≡ refusal.Log log.DeviceFailed) ⊎ ((image : Image)
-            → D.may_leave e.1 image → (image ≡ D.reads disk) ⊎ StandsAlike (D.reads disk) image)) }
-        ensures honest { IfOk result (λ store. D.honest disk ↔ D.honest (disk_of store)) }
-        ensures honest_err { IfErr result (λ e. D.honest disk ↔ D.honest e.1) }
-        ensures later { IfOk result (λ store. D.failures disk ≤ D.failures (disk_of store)) }
-        ensures later_err { IfErr result (λ e. D.failures disk ≤ D.failures e.1) }
+        ensures first { D.honest disk → RefusesDamaged (D.reads disk) result }
+        ensures missing { D.honest disk
+            → IfFault result (λ e. e ≡ refusal.Log log.NoRepository → HasNoEntry (D.reads disk)) }
+        ensures device { IsDeviceFault D.Disk disk result }
+        ensures no_other { IfFault result IsOpenFault }
+        ensures any_moment { D.honest disk → IfMade result (KeepsThrough D.Disk disk) }
+        ensures any_moment_err { D.honest disk → IfBack result (KeepsThrough D.Disk disk) }
+        ensures version { D.honest disk → IfOk result (λ store. IsOf (version_in store) (D.reads disk)) }
+        ensures version_stays { D.honest disk → IfMade result (VersionStays D.Disk disk) }
+        ensures version_stays_err { D.honest disk → IfBack result (VersionStays D.Disk disk) }
+        ensures kept { D.honest disk → IfErr result (HandsBack D.Disk disk) }
+        ensures honest { IfMade result (AreHonest D.Disk disk) }
+        ensures honest_err { IfBack result (AreHonest D.Disk disk) }
+        ensures later { IfMade result (FailsOn D.Disk disk) }
+        ensures later_err { IfBack result (FailsOn D.Disk disk) }
     {
         one_verdict();
         let mut log = match GateLog::open(alloc, disk) {
@@ -167,10 +148,8 @@ impl<D: Disk> RepoStore<D> {
     /// The repository, as its calls so far have left it.
     pub fn repo(&self) -> &Repo
         ensures value { result.now ≡ repository_of self.now }
-        ensures stands { D.honest (disk_of self.now) → ¬ HasFailed self.now
-            → LeavesNow D.Disk (disk_of self.now) (ReopensTo (identity_of self.now) (revisions_of self.now)) }
-        ensures keeps { D.honest (disk_of self.now) → ¬ HasFailed self.now
-            → LeavesNow D.Disk (disk_of self.now) (Keeps (repository_of self.now)) }
+        ensures stands { IfSound self.now (StopLeaves self.now (ReopensAs self.now)) }
+        ensures keeps { IfSound self.now (StopKeeps self.now) }
         ensures kept { IsKept self.now }
         ensures doubted { HasFailed self.now ↔ IsTrue (is_some (doubt_of self.now)) }
     {
@@ -227,8 +206,7 @@ impl<D: Disk> RepoStore<D> {
     /// set. NoSuchRevision (21) above the head, OutOfMemory (70).
     pub fn export(&self, alloc: Global, number: RevNo) -> Result<Vec<u8>, StoreFault>
         ensures canonical { IfOk result (λ bytes. IsExport (repository_of self.now) number bytes.items) }
-        ensures refused { IfErr result (λ e. ((e ≡ refusal.Repo core.NoSuchRevision)
-            × (length (revisions_of self.now) ≤ number)) ⊎ (e ≡ refusal.Log log.OutOfMemory)) }
+        ensures refused { IfErr result (IsExportFault (revisions_of self.now) number) }
     {
         self.repo.is_repository();
         let Some(props) = self.repo.props(number) else {

@@ -1,14 +1,7 @@
 //! A store that is made one of the second version.
-ghost use Rattle.std.specs.Prelude.{◌≡◌, ◌≤◌, ◌↔◌, ◌⊎◌, length, IfOk, IfErr, IsErrAnd};
-ghost use Rattle.fleet_disk.specs.Image.{Image};
-ghost use Rattle.fleet_disk.specs.Rules.{Rose};
-ghost use Rattle.gate_log.specs.Device.{Leaves, LeavesNow};
-ghost use Rattle.gate_log.specs.Log.{entries_of, version_of};
-ghost use Rattle.gate_log.specs.Looks.{Looks};
-ghost use Rattle.gate_log.specs.Standing.{Stands};
+ghost use Rattle.std.specs.Prelude.{◌≡◌, ◌↔◌, length, IfOk, IfErr, IsErrAnd};
 ghost use Rattle.gate_log.specs.Version.{IsOf};
 ghost use Rattle.gate_log.specs.declared.version.LogVersion.TheVariants.{First, Second};
-ghost use Rattle.repo_store.specs.Journal.{Keeps};
 ghost use Rattle.repo_store.specs.declared.fault.StoreFault.TheVariants as refusal;
 ghost use Rattle.gate_log.specs.declared.fault.LogFault.TheVariants as log;
 
@@ -19,12 +12,16 @@ use gate_log::LogVersion;
 use std::alloc::Global;
 
 impl<D: Disk> RepoStore<D> {
-    ghost use Rattle.repo_store.specs.Words.{disk_of, log_of, repository_of, HasFailed};
+    ghost use Rattle.repo_store.specs.Words.{disk_of, entries_in, repository_of, version_in, HasFailed, IfSound};
+    ghost use Rattle.repo_store.specs.Words.{IsHonest, LeavesEntries, StopLeaves};
+    ghost use Rattle.repo_store.specs.Openings.{AreHonest, FailsOn, IfBack, IfFault, IfUpgraded, IsDeviceFault};
+    ghost use Rattle.repo_store.specs.Openings.{KeepsIt, LooksOrFails, StaysKept};
+    ghost use Rattle.repo_store.specs.Refusals.{IsUpgradeFault};
 
     /// Which version its log has. While no call has failed each image that a stop may leave has that.
     pub fn version(&self) -> LogVersion
-        ensures version { result ≡ version_of (log_of self.now) }
-        ensures stand { D.honest (disk_of self.now) → ¬ HasFailed self.now → LeavesNow D.Disk (disk_of self.now) (IsOf result) }
+        ensures version { result ≡ version_in self.now }
+        ensures stand { IfSound self.now (StopLeaves self.now (IsOf result)) }
     {
         self.log.version()
     }
@@ -38,35 +35,27 @@ impl<D: Disk> RepoStore<D> {
     /// and at 70 it was looked at alone.
     pub fn upgrade(self, alloc: Global) -> Result<(RepoStore<D>, u64), (StoreFault, D)>
         ensures same { IfOk result (λ done. repository_of done.0 ≡ repository_of self) }
-        ensures version { IfOk result (λ done. version_of (log_of done.0) ≡ Second) }
-        ensures entries { D.honest (disk_of self)
-            → IfOk result (λ done. entries_of (log_of done.0) ≡ entries_of (log_of self)) }
-        ensures count { IfOk result (λ done. version_of (log_of self) ≡ First
-            → done.1 ≡ length (entries_of (log_of self))) }
-        ensures already { version_of (log_of self) ≡ Second
+        ensures version { IfOk result (λ done. version_in done.0 ≡ Second) }
+        ensures entries { IsHonest self → IfOk result (λ done. entries_in done.0 ≡ entries_in self) }
+        ensures count { IfOk result (λ done. version_in self ≡ First → done.1 ≡ length (entries_in self)) }
+        ensures already { version_in self ≡ Second
             → IfOk result (λ done. (disk_of done.0 ≡ disk_of self) × (done.1 ≡ 0)) }
         ensures working { IfOk result (λ done. ¬ HasFailed done.0) }
-        ensures stand { D.honest (disk_of self) → ¬ HasFailed self → IfOk result (λ done. (image : Image)
-            → D.may_leave (disk_of done.0) image → Stands image (entries_of (log_of self))) }
-        ensures second { D.honest (disk_of self) → IfOk result (λ done. LeavesNow D.Disk (disk_of done.0) (IsOf Second)) }
-        ensures durable { D.honest (disk_of self) → IfOk result (λ done. LeavesNow D.Disk (disk_of done.0) (Keeps (repository_of self))) }
-        ensures any_moment { D.honest (disk_of self) → ¬ HasFailed self → IfOk result (λ done.
-            Leaves D.Disk (disk_of self) (disk_of done.0) (Keeps (repository_of self))) }
-        ensures any_moment_err { D.honest (disk_of self) → ¬ HasFailed self → IfErr result (λ e.
-            Leaves D.Disk (disk_of self) e.1 (Keeps (repository_of self))) }
-        ensures kept { D.honest (disk_of self) → ¬ HasFailed self → IfErr result (λ e. LeavesNow D.Disk e.1 (Keeps (repository_of self))) }
+        ensures stand { IfSound self (IfOk result (λ done. LeavesEntries done.0 (entries_in self))) }
+        ensures second { IsHonest self → IfOk result (λ done. StopLeaves done.0 (IsOf Second)) }
+        ensures durable { IsHonest self → IfUpgraded result (KeepsIt self) }
+        ensures any_moment { IfSound self (IfUpgraded result (StaysKept self)) }
+        ensures any_moment_err { IfSound self (IfBack result (StaysKept self)) }
+        ensures kept { IfSound self (IfBack result (KeepsIt self)) }
         ensures failed_stays { HasFailed self → IsErrAnd result (λ e. e.1 ≡ disk_of self) }
-        ensures looks { IfErr result (λ e. (e.0 ≡ refusal.Log log.DeviceFailed) ⊎ (e.0 ≡ refusal.Log log.Failed)
-            ⊎ Looks D.Disk (disk_of self) e.1) }
-        ensures device { IfErr result (λ e. e.0 ≡ refusal.Log log.DeviceFailed
-            → Rose (D.failures (disk_of self)) (D.failures e.1)) }
-        ensures failed { IfErr result (λ e. (e.0 ≡ refusal.Log log.Failed) ↔ HasFailed self) }
-        ensures no_other { D.honest (disk_of self) → IfErr result (λ e. (e.0 ≡ refusal.Log log.DeviceFailed)
-            ⊎ (e.0 ≡ refusal.Log log.Failed) ⊎ (e.0 ≡ refusal.Log log.OutOfMemory)) }
-        ensures honest { IfOk result (λ done. D.honest (disk_of self) ↔ D.honest (disk_of done.0)) }
-        ensures honest_err { IfErr result (λ e. D.honest (disk_of self) ↔ D.honest e.1) }
-        ensures later { IfOk result (λ done. D.failures (disk_of self) ≤ D.failures (disk_of done.0)) }
-        ensures later_err { IfErr result (λ e. D.failures (disk_of self) ≤ D.failures e.1) }
+        ensures looks { IfErr result (LooksOrFails self) }
+        ensures device { IsDeviceFault D.Disk (disk_of self) result }
+        ensures failed { IfFault result (λ e. (e ≡ refusal.Log log.Failed) ↔ HasFailed self) }
+        ensures no_other { IsHonest self → IfFault result IsUpgradeFault }
+        ensures honest { IfUpgraded result (AreHonest D.Disk (disk_of self)) }
+        ensures honest_err { IfBack result (AreHonest D.Disk (disk_of self)) }
+        ensures later { IfUpgraded result (FailsOn D.Disk (disk_of self)) }
+        ensures later_err { IfBack result (FailsOn D.Disk (disk_of self)) }
     {
         let RepoStore {
             mut log,

@@ -47,7 +47,7 @@ returns-in-Ok-append-clause-written g c h =
 
 pub returns-in-Err-create-clause-any_moment_err : goal.returns-in-Err-create-clause-any_moment_err
 returns-in-Err-create-clause-any_moment_err g c h only =
-    blank g.D.Disk.clock g.D.Disk.left_since (beginning_of c.args.identity) c.args.disk c.in-Err-create.disk (c.in-Err-create.ensures.any_moment_err h only)
+    blank g.D.Disk.clock g.D.Disk.left_since (beginning_of c.args.identity) c.args.disk c.in-Err-create.disk (c.in-Err-create.ensures.any_moment h only)
 
 pub returns-in-Ok-append-clause-any_moment : goal.returns-in-Ok-append-clause-any_moment
 returns-in-Ok-append-clause-any_moment g c h only =

@@ -30,7 +30,7 @@ pub returns-in-Err-clause-any_moment_err : goal.returns-in-Err-clause-any_moment
 returns-in-Err-clause-any_moment_err g c h =
     let first = g.D.Disk.reads c.args.disk in
     weaker g.D.Disk.clock g.D.Disk.left_since c.args.disk c.in-Err.disk (λ (i : Image). g.D.Disk.may_leave c.args.disk i ⊎ StandsAlike first i) (λ (i : Image). g.D.Disk.may_leave c.args.disk i ⊎ KeepsAlike first i)
-    (c.in-Err.ensures.any_moment_err h) (λ i p. alike_or first i p)
+    (c.in-Err.ensures.any_moment h) (λ i p. alike_or first i p)
 
 pub returns-in-Ok-replay-clause-stands : goal.returns-in-Ok-replay-clause-stands
 returns-in-Ok-replay-clause-stands g c h =
