@@ -20,12 +20,14 @@ use Rattle.repo_core.specs.Repository.{Repository, Revision}
 use Rattle.repo_core.specs.Entries.{with_entry_in}
 use Rattle.repo_core.specs.declared.entry.Entry.{Entry}
 use Rattle.repo_core.specs.declared.entry.Entry.TheVariants.{Revised}
+use Rattle.byte_streams.specs.Causes.{Rose}
+use Rattle.byte_streams.specs.declared.output.Output.{Ghosts as OutputGhosts}
 use Rattle.fleet_disk.specs.declared.disk.Disk.{Ghosts}
-use Rattle.repo_store.specs.Words.{repository_of}
+use Rattle.repo_store.specs.Words.{repository_of, revisions_of}
 use Rattle.repo_store.specs.declared.store.RepoStore.{RepoStore}
 use Rattle.store_engines.specs.Devices.{CantKeep}
-use Rattle.store_engines.specs.Loads.{entry_fault}
-use Rattle.store_engines.specs.Mirrors.{is_mirror}
+use Rattle.store_engines.specs.Loads.{entry_fault, ServesOne}
+use Rattle.store_engines.specs.Mirrors.{is_mirror, IsNoMirror}
 use Rattle.store_engines.specs.Refusals.{path_refusal, repo_refusal}
 
 -- what is said of a revision that was committed
@@ -71,3 +73,31 @@ pub data NotCommitted {D : Type 0} {G : Ghosts D} (x : Repository) (bytes messag
   commit_stops : e ≡ refusal.OutOfMemory → repository_of store ≡ x → now ≡ before → NotCommitted x bytes message moment store before now fails e
   commit_not_kept : (path : Path) (entry : Entry) → path_read bytes ≡ Ok path → (entry ≡ directory_entry x.revisions path message moment) ⊎ ((PROP_VALUE_BYTES < length message) × (entry ≡ bare_entry x.revisions path moment)) → CantKeep store entry e → repository_of store ≡ x → now ≡ before → NotCommitted x bytes message moment store before now fails e
   commit_unsaid : (path : Path) → path_read bytes ≡ Ok path → directory_fault x.revisions bytes message moment ≡ None → repository_of store ≡ with_entry_in x (directory_entry x.revisions path message moment) → fails → e ≡ refusal.PeerFailed → NotCommitted x bytes message moment store before now fails e
+
+-- memory ran out, or these bytes are no path
+abbrev pub RefusesPath : List ℕ → Refusal → Type 0
+RefusesPath bytes e = (e ≡ refusal.OutOfMemory) ⊎ ((f : PathFault) × (path_read bytes ≡ Err f) × (e ≡ path_refusal f))
+
+-- why a directory with a message past its limit isn't committed: memory ran out; or the store can't keep its entry without the message; or what the repository refuses of it
+abbrev pub RefusesMessage : {D : Type 0} {G : Ghosts D} → List Change → DateTime → RepoStore D G → RepoStore D G → Refusal → Type 0
+RefusesMessage set moment old new e = (e ≡ refusal.OutOfMemory)
+    ⊎ ((path : Path) → set ≡ directory_set path → CantKeep new (bare_entry (revisions_of old) path moment) e)
+    ⊎ ((path : Path) (message : List ℕ) → set ≡ directory_set path → PROP_VALUE_BYTES < length message
+    → option_map repo_refusal (entry_fault (revisions_of old) (directory_entry (revisions_of old) path message moment)) ≡ Some e)
+
+-- the directory at the path that these bytes spell is committed to the store, and is said
+abbrev pub CommitsDirectory : {D O : Type 0} {G : Ghosts D} → OutputGhosts O → List ℕ → List ℕ → DateTime → RepoStore D G → O → RepoStore D G → O → Type 0
+CommitsDirectory W bytes message moment old before new now = IsCommitted (repository_of old) bytes message moment (repository_of new) (W.contents before) (W.contents now)
+
+-- it isn't
+abbrev pub RefusesDirectory : {D O : Type 0} {G : Ghosts D} → OutputGhosts O → List ℕ → List ℕ → DateTime → RepoStore D G → O → RepoStore D G → O → Refusal → Type 0
+RefusesDirectory W bytes message moment old before new now e =
+    NotCommitted (repository_of old) bytes message moment new (W.contents before) (W.contents now) (Rose (W.failures before) (W.failures now)) e
+
+-- bytes that spell this path have P, where the store is no mirror's
+abbrev pub IfSpelled : {D : Type 0} {G : Ghosts D} → RepoStore D G → Path → (List ℕ → Type 0) → Type 0
+IfSpelled store path P = (bytes : List ℕ) → IsNoMirror store → path_read bytes ≡ Ok path → P bytes
+
+-- what was done to the store's device is the commit of that directory
+abbrev pub ServesDirectory : {D : Type 0} {G : Ghosts D} → Path → List ℕ → DateTime → RepoStore D G → RepoStore D G → Result (Unit {0}) Refusal → Type 0
+ServesDirectory path message moment old new result = ServesOne (directory_entry (revisions_of old) path message moment) old new result

@@ -1,7 +1,9 @@
 -- What a dump of a repository is.
-use Rattle.std.specs.Prelude.{◌≡◌, ◌<◌, ◌≤◌, ℕ, Bool, true, List, [], ◌++◌, length, slice_get, unwrap_or, Option, Some}
+use Rattle.std.specs.Prelude.{◌≡◌, ◌<◌, ◌≤◌, ◌⊎◌, ℕ, Bool, true, List, [], ◌++◌, length, slice_get, unwrap_or, Option, Some}
 use Rattle.std.specs.List.{flat_map, range_with_len}
 use Rattle.std.specs.Io.KnownBytes.{Appends}
+use Rattle.byte_streams.specs.Causes.{Rose}
+use Rattle.byte_streams.specs.declared.output.Output.{Ghosts as OutputGhosts}
 use Rattle.node_base.specs.declared.refusal.Refusal.{Refusal}
 use Rattle.node_base.specs.declared.refusal.Refusal.TheVariants as refusal
 use Rattle.dump_text.specs.Canon.{canon_head}
@@ -34,3 +36,28 @@ pub data DumpStops (r : Repository) (range : Option RevRange) (before now : Opti
   no_revision : length r.revisions ≤ last_wanted r range → e ≡ refusal.NoSuchRevision → now ≡ before → DumpStops r range before now fails e
   no_memory : (written : ℕ) → last_wanted r range < length r.revisions → written < count_wanted r range → e ≡ refusal.OutOfMemory → Appends before now (dump_of r (first_wanted range) written) → DumpStops r range before now fails e
   writer_fails : last_wanted r range < length r.revisions → fails → e ≡ refusal.PeerFailed → DumpStops r range before now fails e
+
+-- the repository has the revisions that are wanted
+abbrev pub HasWanted : Repository → Option RevRange → Type 0
+HasWanted r range = last_wanted r range < length r.revisions
+
+-- the dump of those that are wanted
+abbrev pub wanted_dump : Repository → Option RevRange → List ℕ
+wanted_dump r range = dump_of r (first_wanted range) (count_wanted r range)
+
+-- the writer failed (49)
+abbrev pub IsWriterFault : {O : Type 0} → OutputGhosts O → O → O → Refusal → Type 0
+IsWriterFault W old new e = (e ≡ refusal.PeerFailed) × Rose (W.failures old) (W.failures new)
+
+-- nothing is written, since memory ran out; or the writer failed
+abbrev pub CantWriteOne : {O : Type 0} → OutputGhosts O → O → O → Refusal → Type 0
+CantWriteOne W old new e = ((e ≡ refusal.OutOfMemory) × (W.contents new ≡ W.contents old)) ⊎ IsWriterFault W old new e
+
+-- of so many revisions from one on the first are written, since memory ran out; or the writer failed
+abbrev pub WritesFewer : {O : Type 0} → OutputGhosts O → Repository → ℕ → ℕ → O → O → Refusal → Type 0
+WritesFewer W r first count old new e =
+    ((e ≡ refusal.OutOfMemory) × (written : ℕ) × (written < count) × Appends (W.contents old) (W.contents new) (revisions_text r first written)) ⊎ IsWriterFault W old new e
+
+-- the dump that is wanted ends before its end
+abbrev pub StopsDump : {O : Type 0} → OutputGhosts O → Repository → Option RevRange → O → O → Refusal → Type 0
+StopsDump W r range old new e = DumpStops r range (W.contents old) (W.contents new) (Rose (W.failures old) (W.failures new)) e

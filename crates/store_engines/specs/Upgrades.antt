@@ -2,6 +2,8 @@
 use Rattle.std.specs.Prelude.{◌≡◌, ◌≢◌, ◌≤◌, ◌↔◌, ◌⊎◌, ℕ, List, ◌++◌, length, Option, codes}
 use Rattle.std.specs.Fmt.{decimal}
 use Rattle.std.specs.Io.KnownBytes.{Appends}
+use Rattle.byte_streams.specs.Causes.{Rose as WriterRose}
+use Rattle.byte_streams.specs.declared.output.Output.{Ghosts as OutputGhosts}
 use Rattle.fleet_disk.specs.Image.{Image}
 use Rattle.fleet_disk.specs.Rules.{LeavesOnly, Rose}
 use Rattle.fleet_disk.specs.declared.disk.Disk.{Ghosts}
@@ -59,3 +61,10 @@ pub record NotUpgraded {D : Type 0} {G : Ghosts D} (before now : Option (List �
   pub unsaid : e ≡ refusal.PeerFailed → fails
   pub done : e ≡ refusal.PeerFailed → G.honest (disk_of old) → ¬ HasFailed old → (image : Image) → G.may_leave back image → HasSums old image
   pub left : G.honest (disk_of old) → ¬ HasFailed old → (image : Image) → G.may_leave back image → Keeps (repository_of old) image
+
+-- what the writer has of an upgrade, and what came back
+abbrev pub Upgrades : {D O : Type 0} {G : Ghosts D} → OutputGhosts O → O → O → RepoStore D G → D → Type 0
+Upgrades W before now old back = IsUpgraded (W.contents before) (W.contents now) old back
+
+abbrev pub RefusesUpgrade : {D O : Type 0} {G : Ghosts D} → OutputGhosts O → O → O → RepoStore D G → D → Refusal → Type 0
+RefusesUpgrade W before now old back e = NotUpgraded (W.contents before) (W.contents now) (WriterRose (W.failures before) (W.failures now)) e old back

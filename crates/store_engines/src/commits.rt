@@ -1,10 +1,7 @@
 //! Commits against the head.
-ghost use Rattle.std.specs.Prelude.{length};
-ghost use Rattle.dump_load.specs.Trees.{Makes};
-ghost use Rattle.repo_core.specs.Repository.{trees_of};
 ghost use Rattle.repo_core.specs.Dates.{dated};
-ghost use Rattle.repo_core.specs.declared.entry.Entry.TheVariants.{Revised};
 ghost use Rattle.repo_store.specs.Words.{revisions_of};
+ghost use Rattle.repo_store.specs.Changes.{next_entry, IsJudgedOver};
 ghost use Rattle.store_engines.specs.Loads.{Commits};
 
 use dump_load::{Applied, ChangeSet};
@@ -22,7 +19,7 @@ pub fn commit<D: Disk + Drop>(
     props: Props,
     moment: Option<Moment>,
 ) -> Result<(), Refusal>
-    ensures { Commits (Revised (length (revisions_of store.old)) set (dated props moment)) store.old store.new result }
+    ensures { Commits (next_entry (revisions_of store.old) set (dated props moment)) store.old store.new result }
 {
     let head = store.repo().head();
     match store.commit(alloc, head, set, props, moment) {
@@ -38,8 +35,8 @@ pub fn commit_applied<D: Disk + Drop>(
     applied: Applied,
     props: Props,
 ) -> Result<(), Refusal>
-    requires { Makes (trees_of (revisions_of store.old)) applied.set applied.tree }
-    ensures { Commits (Revised (length (revisions_of store.old)) applied.set props) store.old store.new result }
+    requires { IsJudgedOver (revisions_of store.old) applied }
+    ensures { Commits (next_entry (revisions_of store.old) applied.set props) store.old store.new result }
 {
     match store.commit_applied(alloc, applied, props) {
         Ok(_committed) => Ok(()),

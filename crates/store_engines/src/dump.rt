@@ -1,14 +1,13 @@
 //! `dump` over any disk and output.
-ghost use Rattle.std.specs.Prelude.{◌≡◌, ◌<◌, ◌≤◌, ◌⊎◌, ◌+◌, ◌-◌, ℕ, length};
+ghost use Rattle.std.specs.Prelude.{◌≡◌, ◌<◌, ◌≤◌, ◌+◌, ◌-◌, length};
 ghost use Rattle.std.specs.Prelude.{Some, IfOk, IfErr, OnOk};
-ghost use Rattle.std.specs.Io.KnownBytes.{Appends};
-ghost use Rattle.byte_streams.specs.Causes.{Rose};
 ghost use Rattle.dump_text.specs.Canon.{canon_head};
-ghost use Rattle.fleet_engines.specs.Runs.{Counted};
 ghost use Rattle.repo_store.specs.Journal.{spelling};
 ghost use Rattle.repo_store.specs.Words.{repository_of, revisions_of};
-ghost use Rattle.store_engines.specs.Dumps.{dump_of, revision_now, revisions_text, DumpStops};
-ghost use Rattle.store_engines.specs.Ranges.{count_wanted, first_wanted, last_wanted};
+ghost use Rattle.fleet_engines.specs.Streams.{TellsFailure, Writes};
+ghost use Rattle.store_engines.specs.Dumps.{revision_now, revisions_text, wanted_dump, HasWanted, IsWriterFault};
+ghost use Rattle.store_engines.specs.Dumps.{StopsDump, WritesFewer, CantWriteOne};
+ghost use Rattle.store_engines.specs.Ranges.{first_wanted, last_wanted};
 
 use crate::RevRange;
 use byte_streams::Output;
@@ -24,7 +23,7 @@ use uuid::Uuid;
 fn wanted(repo: &Repo, range: &Option<RevRange>) -> Result<(RevNo, RevNo), Refusal>
     ensures first { IfOk result (λ w. w.0 ≡ first_wanted range.now) }
     ensures last { IfOk result (λ w. w.1 ≡ last_wanted repo.now range.now) }
-    ensures there { OnOk result (last_wanted repo.now range.now < length repo.now.revisions) }
+    ensures there { OnOk result (HasWanted repo.now range.now) }
     ensures above { IfErr result (λ e. (e ≡ Refusal.NoSuchRevision)
         × (length repo.now.revisions ≤ last_wanted repo.now range.now)) }
 {
@@ -42,21 +41,18 @@ fn wanted(repo: &Repo, range: &Option<RevRange>) -> Result<(RevNo, RevNo), Refus
 
 // Writes a text.
 fn write_text<O: Output>(text: &[u8], output: &mut O) -> Result<(), Refusal>
-    ensures ok { OnOk result (Appends (O.contents output.old) (O.contents output.new) text.now) }
-    ensures refused { IfErr result (λ e. (e ≡ Refusal.PeerFailed)
-        × Rose (O.failures output.old) (O.failures output.new)) }
-    ensures peer { Counted result (O.failures output.old) (O.failures output.new) }
+    ensures ok { OnOk result (Writes O.contents output.old output.new text.now) }
+    ensures refused { IfErr result (IsWriterFault O.Output output.old output.new) }
+    ensures peer { TellsFailure O.failures output.old output.new result }
 {
     write(output, text)
 }
 
 // Writes the head with the identity. It takes no memory.
 fn write_head<O: Output>(identity: &Uuid, output: &mut O) -> Result<(), Refusal>
-    ensures ok { OnOk result (Appends (O.contents output.old) (O.contents output.new)
-        (canon_head (Some identity.now))) }
-    ensures refused { IfErr result (λ e. (e ≡ Refusal.PeerFailed)
-        × Rose (O.failures output.old) (O.failures output.new)) }
-    ensures peer { Counted result (O.failures output.old) (O.failures output.new) }
+    ensures ok { OnOk result (Writes O.contents output.old output.new (canon_head (Some identity.now))) }
+    ensures refused { IfErr result (IsWriterFault O.Output output.old output.new) }
+    ensures peer { TellsFailure O.failures output.old output.new result }
 {
     let mut buffer = Uuid::encode_buffer();
     let text = identity.hyphenated().encode_lower(&mut buffer);
@@ -76,12 +72,10 @@ fn write_one<D: Disk + Drop, O: Output>(
     output: &mut O,
 ) -> Result<(), Refusal>
     requires there { number < length (revisions_of store.now) }
-    ensures ok { OnOk result (Appends (O.contents output.old) (O.contents output.new)
-        (spelling (revision_now (repository_of store.now) number))) }
-    ensures refused { IfErr result (λ e. ((e ≡ Refusal.OutOfMemory)
-        × (O.contents output.new ≡ O.contents output.old))
-        ⊎ ((e ≡ Refusal.PeerFailed) × Rose (O.failures output.old) (O.failures output.new))) }
-    ensures peer { Counted result (O.failures output.old) (O.failures output.new) }
+    ensures ok { OnOk result
+        (Writes O.contents output.old output.new (spelling (revision_now (repository_of store.now) number))) }
+    ensures refused { IfErr result (CantWriteOne O.Output output.old output.new) }
+    ensures peer { TellsFailure O.failures output.old output.new result }
 {
     match store.export(alloc, number) {
         Ok(text) => write_text(&text, output),
@@ -98,14 +92,12 @@ fn write_all<D: Disk + Drop, O: Output>(
     output: &mut O,
 ) -> Result<(), Refusal>
     requires there { last < length (revisions_of store.now) }
-    ensures ok { OnOk result (Appends (O.contents output.old) (O.contents output.new)
+    ensures ok { OnOk result
+        (Writes O.contents output.old output.new
         (revisions_text (repository_of store.now) first (last + 1 - first))) }
-    ensures refused { IfErr result (λ e. ((e ≡ Refusal.OutOfMemory) × (written : ℕ)
-        × (written < last + 1 - first)
-        × Appends (O.contents output.old) (O.contents output.new)
-        (revisions_text (repository_of store.now) first written))
-        ⊎ ((e ≡ Refusal.PeerFailed) × Rose (O.failures output.old) (O.failures output.new))) }
-    ensures peer { Counted result (O.failures output.old) (O.failures output.new) }
+    ensures refused { IfErr result (WritesFewer O.Output (repository_of store.now) first (last + 1 - first) output.old
+        output.new) }
+    ensures peer { TellsFailure O.failures output.old output.new result }
 {
     for number in first.index()..last.index() + 1 {
         write_one(alloc, store, RevNo::new(number as u16), output)?;
@@ -123,12 +115,10 @@ pub fn run_dump<D: Disk + Drop, O: Output>(
     range: Option<RevRange>,
     output: &mut O,
 ) -> Result<(), Refusal>
-    ensures ok { OnOk result (Appends (O.contents output.old) (O.contents output.new)
-        (dump_of (repository_of store.now) (first_wanted range) (count_wanted (repository_of store.now) range))) }
-    ensures there { OnOk result (last_wanted (repository_of store.now) range < length (revisions_of store.now)) }
-    ensures refused { IfErr result (DumpStops (repository_of store.now) range (O.contents output.old)
-        (O.contents output.new) (Rose (O.failures output.old) (O.failures output.new))) }
-    ensures peer { Counted result (O.failures output.old) (O.failures output.new) }
+    ensures ok { OnOk result (Writes O.contents output.old output.new (wanted_dump (repository_of store.now) range)) }
+    ensures there { OnOk result (HasWanted (repository_of store.now) range) }
+    ensures refused { IfErr result (StopsDump O.Output (repository_of store.now) range output.old output.new) }
+    ensures peer { TellsFailure O.failures output.old output.new result }
 {
     let (first, last) = wanted(store.repo(), &range)?;
     write_head(&store.repo().identity(), output)?;

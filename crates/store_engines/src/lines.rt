@@ -1,8 +1,6 @@
 //! Lines that tell what was done.
-ghost use Rattle.std.specs.Prelude.{◌≡◌, IfOk, IfErr, OnOk, OnErr, string_bytes};
-ghost use Rattle.std.specs.Io.KnownBytes.{Appends};
-ghost use Rattle.byte_streams.specs.Causes.{Rose};
-ghost use Rattle.fleet_engines.specs.Runs.{Counted};
+ghost use Rattle.std.specs.Prelude.{◌≡◌, IfOk, OnOk, OnErr, string_bytes};
+ghost use Rattle.fleet_engines.specs.Streams.{FailedIn, OnlyPeerFails, TellsFailure, Writes};
 ghost use Rattle.store_engines.specs.Loads.{loaded_line};
 ghost use Rattle.store_engines.specs.Commits.{committed_line};
 
@@ -20,11 +18,10 @@ pub fn committed_line(alloc: Global, number: usize) -> Result<String, AllocError
 
 /// Writes a line and hands it on, so that it is out before anything else is done.
 pub fn say<O: Output>(output: &mut O, line: &String) -> Result<(), Refusal>
-    ensures ok { OnOk result (Appends (O.contents output.old) (O.contents output.new)
-        (string_bytes line.now)) }
-    ensures peer { Counted result (O.failures output.old) (O.failures output.new) }
-    ensures failed { OnErr result (Rose (O.failures output.old) (O.failures output.new)) }
-    ensures only_peer { IfErr result (λ e. e ≡ Refusal.PeerFailed) }
+    ensures ok { OnOk result (Writes O.contents output.old output.new (string_bytes line.now)) }
+    ensures peer { TellsFailure O.failures output.old output.new result }
+    ensures failed { OnErr result (FailedIn O.failures output.old output.new) }
+    ensures only_peer { OnlyPeerFails result }
 {
     write(output, line.as_str().as_bytes())?;
     hand_on(output)
@@ -32,10 +29,10 @@ pub fn say<O: Output>(output: &mut O, line: &String) -> Result<(), Refusal>
 
 /// Writes the line for a revision that was loaded, and hands it on.
 pub fn say_loaded<O: Output>(output: &mut O, number: RevNo) -> Result<(), Refusal>
-    ensures ok { OnOk result (Appends (O.contents output.old) (O.contents output.new) (loaded_line number)) }
-    ensures peer { Counted result (O.failures output.old) (O.failures output.new) }
-    ensures failed { OnErr result (Rose (O.failures output.old) (O.failures output.new)) }
-    ensures only_peer { IfErr result (λ e. e ≡ Refusal.PeerFailed) }
+    ensures ok { OnOk result (Writes O.contents output.old output.new (loaded_line number)) }
+    ensures peer { TellsFailure O.failures output.old output.new result }
+    ensures failed { OnErr result (FailedIn O.failures output.old output.new) }
+    ensures only_peer { OnlyPeerFails result }
 {
     write_count(output, b"Loaded revision ", u64::from(number.get()), b".\n")?;
     hand_on(output)

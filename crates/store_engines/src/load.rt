@@ -1,28 +1,23 @@
 //! `load` over any disk, input and report.
-ghost use Rattle.std.specs.List.{filter};
-ghost use Rattle.std.specs.Prelude.{◌≡◌, ◌<◌, ◌∷◌, ◌++◌, [], ℕ, List};
-ghost use Rattle.std.specs.Prelude.{Option, Some, None, true};
-ghost use Rattle.std.specs.Prelude.{false, IfOk, IfErr, IfSome, OnOk};
-ghost use Rattle.byte_streams.specs.Causes.{Rose, counts};
-ghost use Rattle.node_base.specs.Props.{PropMap};
-ghost use Rattle.dump_text.specs.Streams.{dump_by, records_of};
-ghost use Rattle.dump_text.specs.declared.record.DumpRecord.{DumpRecord as RecordOf};
-ghost use Rattle.repo_core.specs.Repository.{Repository, trees_of};
+ghost use Rattle.std.specs.Prelude.{◌≡◌, ◌<◌, []};
+ghost use Rattle.std.specs.Prelude.{Some, None};
+ghost use Rattle.std.specs.Prelude.{false, IfOk, IfErr, OnOk};
+ghost use Rattle.repo_core.specs.Repository.{trees_of};
 ghost use Rattle.repo_core.specs.declared.entry.Entry.TheVariants.{Mapped};
-ghost use Rattle.gate_log.specs.Device.{LeavesNow};
-ghost use Rattle.repo_store.specs.Journal.{Keeps};
-ghost use Rattle.repo_store.specs.Words.{disk_of, repository_of, revisions_of, HasFailed, IsKept};
-ghost use Rattle.fleet_engines.specs.Grouping.{is_no_identity, records_of_rev};
+ghost use Rattle.repo_store.specs.Words.{revisions_of, HasFailed, IfSound, IsKept, StopKeeps};
 ghost use Rattle.fleet_engines.specs.Histories.{rev_read};
 ghost use Rattle.fleet_engines.specs.Nodes.{nodes_of};
-ghost use Rattle.fleet_engines.specs.Revisions.{Makes, IsUnfit, is_zero};
-ghost use Rattle.fleet_engines.specs.Runs.{Counted, BothCounted};
+ghost use Rattle.fleet_engines.specs.Revisions.{is_zero, MakesNone, MakesSet};
 ghost use Rattle.fleet_engines.specs.Takers.{place};
-ghost use Rattle.store_engines.specs.Loaders.{last_of, TakesRecord, RefusesRecord, EndsLoad, CantEndLoad};
+ghost use Rattle.fleet_engines.specs.Streams.{NoPeerFails, TellsEither, TellsFailure};
+ghost use Rattle.store_engines.specs.Loaders.{last_of, CantEndLoad, EndsLoad, Gathers, LoadsDump, LoadsRevision};
+ghost use Rattle.store_engines.specs.Loaders.{MovesTo, RefusesAsMirror, RefusesLoad, RefusesRecord, RefusesRevision};
+ghost use Rattle.store_engines.specs.Loaders.{ServesDump, ServesNext, ServesRevision, StopsAt, StopsAtEnd};
+ghost use Rattle.store_engines.specs.Loaders.{TakesRecord};
 ghost use Rattle.store_engines.specs.Devices.{is_device, IsSafe, Serves};
-ghost use Rattle.store_engines.specs.Loads.{read_of, CantTake, CantClose, Gathered, IsBare, LoadsOne};
-ghost use Rattle.store_engines.specs.Loads.{Commits, Loaded, Moves, NotLoaded, Refused, ServesRecords, Stands};
-ghost use Rattle.store_engines.specs.Mirrors.{is_mirror};
+ghost use Rattle.store_engines.specs.Loads.{read_of, IsBare};
+ghost use Rattle.store_engines.specs.Loads.{Commits, ServesRecords};
+ghost use Rattle.store_engines.specs.Mirrors.{IsMirror, IsNoMirror};
 ghost use Rattle.store_engines.specs.Telling.{AllStand, KeepsTold};
 
 use crate::commits::commit_applied;
@@ -50,12 +45,10 @@ fn is_zero(repo: &Repo, revision: &ReadRevision) -> bool
 // The set of the revision after the head with the tree that it makes. WrongNumber (16) where the number isn't its, then
 // a text that can't be made whole, and then what makes no set or has a fault over the trees so far.
 fn judge(trees: &[Tree], number: RevNo, nodes: RevisionNodes) -> Result<Applied, Refusal>
-    ensures made { IfOk result (λ a. (props : PropMap)
-        → Makes trees.now (record { number = number; props = props; nodes = nodes_of nodes }) a.set a.tree) }
-    ensures refused { IfErr result (λ e. (props : PropMap)
-        → IsUnfit trees.now (record { number = number; props = props; nodes = nodes_of nodes }) e) }
+    ensures made { IfOk result (MakesSet trees.now number (nodes_of nodes)) }
+    ensures refused { IfErr result (MakesNone trees.now number (nodes_of nodes)) }
     ensures no_device { IfErr result (λ e. is_device e ≡ false) }
-    ensures no_peer { IfErr result (λ e. e ≡ Refusal.PeerFailed → ⊥) }
+    ensures no_peer { NoPeerFails result }
 {
     nodes.load(trees, number)
 }
@@ -82,14 +75,11 @@ fn load_next<D: Disk + Drop, T: LoadReport>(
     report: &mut T,
 ) -> Result<(), Refusal>
     requires later { is_zero (trees_of (revisions_of store.old)) (rev_read revision) ≡ false }
-    ensures ok { OnOk result (LoadsOne (repository_of store.old) (rev_read revision) (repository_of store.new)
-        (T.contents report.old) (T.contents report.new)) }
-    ensures refused { IfErr result (λ e. NotLoaded (repository_of store.old) (rev_read revision) store.new
-        (T.contents report.old) (T.contents report.new) (Rose (T.failures report.old) (T.failures report.new)) e) }
-    ensures device { IsSafe store.old
-        → ServesRecords (records_of_rev (rev_read revision)) store.old store.new result [] }
+    ensures ok { OnOk result (LoadsRevision T.LoadReport revision store.old report.old store.new report.new) }
+    ensures refused { IfErr result (RefusesRevision T.LoadReport revision store.old report.old store.new report.new) }
+    ensures device { ServesRevision revision store.old store.new result }
     ensures told { KeepsTold store.old store.new (T.told report.old) (T.told report.new) }
-    ensures peer { Counted result (T.failures report.old) (T.failures report.new) }
+    ensures peer { TellsFailure T.failures report.old report.new result }
 {
     let ReadRevision {
         number,
@@ -108,15 +98,13 @@ fn load_one<D: Disk + Drop, T: LoadReport>(
     store: &mut RepoStore<D>,
     report: &mut T,
 ) -> Result<(), Refusal>
-    ensures ok { OnOk result (IsBare (rev_read revision) → LoadsOne (repository_of store.old) (rev_read revision)
-        (repository_of store.new) (T.contents report.old) (T.contents report.new)) }
+    ensures ok { OnOk result (IsBare (rev_read revision)
+        → LoadsRevision T.LoadReport revision store.old report.old store.new report.new) }
     ensures refused { IfErr result (λ e. IsBare (rev_read revision)
-        → NotLoaded (repository_of store.old) (rev_read revision) store.new (T.contents report.old)
-        (T.contents report.new) (Rose (T.failures report.old) (T.failures report.new)) e) }
-    ensures device { IsSafe store.old
-        → ServesRecords (records_of_rev (rev_read revision)) store.old store.new result [] }
+        → RefusesRevision T.LoadReport revision store.old report.old store.new report.new e) }
+    ensures device { ServesRevision revision store.old store.new result }
     ensures told { KeepsTold store.old store.new (T.told report.old) (T.told report.new) }
-    ensures peer { Counted result (T.failures report.old) (T.failures report.new) }
+    ensures peer { TellsFailure T.failures report.old report.new result }
 {
     if is_zero(store.repo(), &revision) {
         return put_zero(alloc, store, revision.props);
@@ -149,17 +137,13 @@ impl Loader {
         store: &mut RepoStore<D>,
         report: &mut T,
     ) -> Result<(), Refusal>
-        ensures ok { OnOk result (Moves (repository_of store.old) (last_of self.old) (T.contents report.old)
-            (next ∷ []) (repository_of store.new) (last_of self.new) (T.contents report.new)) }
-        ensures refused { IfErr result (λ e. (x : Repository) (rs : List RecordOf) (start : Option (List ℕ))
-            → Stands x rs (repository_of store.old) (last_of self.old) start (T.contents report.old)
-            → CantTake x rs next store.new start (T.contents report.new) (Rose (T.failures report.old) (T.failures report.new)) e) }
-        ensures device { IsSafe store.old
-            → ServesRecords (read_of (last_of self.old)
-            ++ filter is_no_identity (next ∷ [])) store.old store.new result
-            (read_of (last_of self.new)) }
+        ensures ok { OnOk result (MovesTo T.LoadReport (place self.old store.old report.old) next
+            (place self.new store.new report.new)) }
+        ensures refused { IfErr result (λ e. StopsAt T.LoadReport (place self.old store.old report.old) next e
+            (place self.new store.new report.new)) }
+        ensures device { ServesNext self.old store.old next self.new store.new result }
         ensures told { KeepsTold store.old store.new (T.told report.old) (T.told report.new) }
-        ensures peer { Counted result (T.failures report.old) (T.failures report.new) }
+        ensures peer { TellsFailure T.failures report.old report.new result }
     {
         match next {
             DumpRecord::Identity(_identity) => Ok(()),
@@ -182,16 +166,14 @@ impl Loader {
         store: &mut RepoStore<D>,
         report: &mut T,
     ) -> Result<(), Refusal>
-        ensures ok { OnOk result ((x : Repository) (rs : List RecordOf) (start : Option (List ℕ))
-            → Stands x rs (repository_of store.old) (last_of self.old) start (T.contents report.old)
-            → Gathered x rs (repository_of store.new) start (T.contents report.new)) }
+        ensures ok { OnOk result (Gathers T.LoadReport (place self.old store.old report.old)
+            (place self.new store.new report.new)) }
         ensures last { last_of self.new ≡ None }
-        ensures refused { IfErr result (λ e. (x : Repository) (rs : List RecordOf) (start : Option (List ℕ))
-            → Stands x rs (repository_of store.old) (last_of self.old) start (T.contents report.old)
-            → CantClose x rs store.new start (T.contents report.new) (Rose (T.failures report.old) (T.failures report.new)) e) }
+        ensures refused { IfErr result (λ e. StopsAtEnd T.LoadReport (place self.old store.old report.old) e
+            (place self.new store.new report.new)) }
         ensures device { IsSafe store.old → ServesRecords (read_of (last_of self.old)) store.old store.new result [] }
         ensures told { KeepsTold store.old store.new (T.told report.old) (T.told report.new) }
-        ensures peer { Counted result (T.failures report.old) (T.failures report.new) }
+        ensures peer { TellsFailure T.failures report.old report.new result }
     {
         match self.last.take() {
             Some(revision) => load_one(self.alloc, revision, store, report),
@@ -210,7 +192,7 @@ impl Loader {
             (place self.new store.new report.new)) }
         ensures refused { IfErr result (λ e. RefusesRecord T.LoadReport (place self.old store.old report.old) next e
             (place self.new store.new report.new)) }
-        ensures peer { Counted result (T.failures report.old) (T.failures report.new) }
+        ensures peer { TellsFailure T.failures report.old report.new result }
     {
         self.take_record(next, store, report)
     }
@@ -224,7 +206,7 @@ impl Loader {
             (place self.new store.new report.new)) }
         ensures refused { IfErr result (λ e. CantEndLoad T.LoadReport (place self.old store.old report.old) e
             (place self.new store.new report.new)) }
-        ensures peer { Counted result (T.failures report.old) (T.failures report.new) }
+        ensures peer { TellsFailure T.failures report.old report.new result }
     {
         self.close(store, report)
     }
@@ -271,25 +253,20 @@ pub fn run_load<D: Disk + Drop, I: Input, T: LoadReport>(
     input: &mut I,
     report: &mut T,
 ) -> Result<(), Refusal>
-    ensures ok { OnOk result (IfSome (I.remaining input.old)
-        (λ bytes. Loaded deltas (repository_of store.old) bytes (repository_of store.new) (T.contents report.old)
-        (T.contents report.new))) }
-    ensures refused { IfErr result (λ e. is_mirror (revisions_of store.old) ≡ false
-        → IfSome (I.remaining input.old) (λ bytes. Refused deltas (repository_of store.old) bytes store.new
-        (T.contents report.old) (T.contents report.new) (Rose (T.failures report.old) (T.failures report.new)) e)) }
-    ensures mirror { is_mirror (revisions_of store.old) ≡ true
-        → IfErr result (λ e. (e ≡ Refusal.ReadOnly) × (repository_of store.new ≡ repository_of store.old)
-        × (I.remaining input.new ≡ I.remaining input.old)
-        × (T.contents report.new ≡ T.contents report.old)) }
-    ensures no_mirror { OnOk result (is_mirror (revisions_of store.old) ≡ false) }
+    ensures ok { OnOk result (LoadsDump I.Input T.LoadReport deltas input.old store.old report.old store.new
+        report.new) }
+    ensures refused { IfErr result (RefusesLoad I.Input T.LoadReport deltas input.old store.old report.old store.new
+        report.new) }
+    ensures mirror { IsMirror store.old
+        → IfErr result (RefusesAsMirror I.Input T.LoadReport input.old store.old report.old input.new store.new
+        report.new) }
+    ensures no_mirror { OnOk result (IsNoMirror store.old) }
     ensures device { Serves store.old store.new result }
-    ensures entries { IfSome (I.remaining input.old) (λ bytes. ServesRecords
-        (filter is_no_identity (records_of (dump_by deltas bytes))) store.old store.new result []) }
-    ensures durable { D.honest (disk_of store.new) → ¬ HasFailed store.new
-        → LeavesNow D.Disk (disk_of store.new) (Keeps (repository_of store.new)) }
+    ensures entries { ServesDump I.Input deltas input.old store.old store.new result }
+    ensures durable { IfSound store.new (StopKeeps store.new) }
     ensures kept { IsKept store.new }
     ensures told { ¬ HasFailed store.old → AllStand store.old (T.told report.old) → AllStand store.new (T.told report.new) }
-    ensures peer { BothCounted result (counts I.failures I.reads input.old input.new) (T.failures report.old) (T.failures report.new) }
+    ensures peer { TellsEither I.Input input.old input.new T.failures report.old report.new result }
 {
     refuse_mirror(store.repo())?;
     let mut loader = Loader::new(alloc);

@@ -1,23 +1,18 @@
 //! `mkdir` over any disk and output.
-ghost use Rattle.std.specs.Prelude.{◌≡◌, ◌<◌, ◌≤◌, ◌⊎◌, ℕ, List, length, true, false, Ok, Err};
+ghost use Rattle.std.specs.Prelude.{◌≡◌, ◌<◌, ◌≤◌, length, false, Ok, Err};
 ghost use Rattle.std.specs.Prelude.{Some, IfOk, IfErr, OnOk};
 ghost use Rattle.std.specs.Prelude.{IsErrOf, codes};
-ghost use Rattle.std.specs.Option.{option_map};
-ghost use Rattle.byte_streams.specs.Causes.{Rose};
-ghost use Rattle.fleet_engines.specs.Runs.{Counted};
 ghost use Rattle.node_base.specs.Path.{Path};
 ghost use Rattle.node_base.specs.PathText.{path_read};
-ghost use Rattle.node_base.specs.declared.fault.PathFault.{PathFault as PathFaultOf};
 ghost use Rattle.repo_core.specs.declared.entry.Entry.{Entry as EntryOf};
-ghost use Rattle.gate_log.specs.Device.{LeavesNow};
-ghost use Rattle.repo_store.specs.Journal.{Keeps};
-ghost use Rattle.repo_store.specs.Words.{disk_of, repository_of, revisions_of, HasFailed};
-ghost use Rattle.store_engines.specs.Commits.{bare_entry, directory_entry, directory_set, logged, IsCommitted};
-ghost use Rattle.store_engines.specs.Commits.{NotCommitted};
-ghost use Rattle.store_engines.specs.Devices.{is_device, CantKeep, IsSafe, Serves};
-ghost use Rattle.store_engines.specs.Loads.{entry_fault, ServesOne};
-ghost use Rattle.store_engines.specs.Mirrors.{is_mirror};
-ghost use Rattle.store_engines.specs.Refusals.{path_refusal, repo_refusal};
+ghost use Rattle.repo_store.specs.Words.{repository_of, IfSound, StopKeeps};
+ghost use Rattle.fleet_engines.specs.Streams.{TellsFailure};
+ghost use Rattle.store_engines.specs.Commits.{directory_set, logged, CommitsDirectory, IfSpelled, RefusesDirectory};
+ghost use Rattle.store_engines.specs.Commits.{RefusesMessage, RefusesPath, ServesDirectory};
+ghost use Rattle.store_engines.specs.Devices.{is_device, IsSafe, Serves};
+ghost use Rattle.store_engines.specs.Loads.{ServesOne};
+ghost use Rattle.store_engines.specs.Mirrors.{IsMirror};
+ghost use Rattle.store_engines.specs.Refusals.{path_refusal};
 
 use crate::commits::commit;
 use crate::lines::{committed_line, say};
@@ -35,8 +30,7 @@ use std::alloc::{AllocError, Global};
 // The path that a word spells.
 fn path_of(alloc: Global, word: &str) -> Result<NodePath, Refusal>
     ensures path { IfOk result (λ p. path_read word.now ≡ Ok p) }
-    ensures refused { IfErr result (λ e. (e ≡ Refusal.OutOfMemory)
-        ⊎ ((f : PathFaultOf) × (path_read word.now ≡ Err f) × (e ≡ path_refusal f))) }
+    ensures refused { IfErr result (RefusesPath word.now) }
     ensures no_device { IfErr result (λ e. is_device e ≡ false) }
 {
     match NodePath::parse(alloc, word.as_bytes()) {
@@ -101,12 +95,7 @@ fn refused_message<D: Disk + Drop>(
     set: ChangeSet,
     moment: Moment,
 ) -> Refusal
-    ensures due { (result ≡ Refusal.OutOfMemory)
-        ⊎ ((path : Path) → set ≡ directory_set path
-        → CantKeep store.new (bare_entry (revisions_of store.old) path moment) result)
-        ⊎ ((path : Path) (message : List ℕ) → set ≡ directory_set path → PROP_VALUE_BYTES < length message
-        → option_map repo_refusal (entry_fault (revisions_of store.old)
-        (directory_entry (revisions_of store.old) path message moment)) ≡ Some result) }
+    ensures due { RefusesMessage set moment store.old store.new result }
     ensures same { repository_of store.new ≡ repository_of store.old }
     ensures device { (entry : EntryOf) → IsSafe store.old → ServesOne entry store.old store.new (Err result) }
     ensures no_peer { result ≡ Refusal.PeerFailed → ⊥ }
@@ -127,16 +116,14 @@ fn commit_directory<D: Disk + Drop, O: Output>(
     moment: Moment,
     output: &mut O,
 ) -> Result<(), Refusal>
-    ensures ok { OnOk result ((bytes : List ℕ) → is_mirror (revisions_of store.old) ≡ false
-        → path_read bytes ≡ Ok path
-        → IsCommitted (repository_of store.old) bytes message.now moment (repository_of store.new)
-        (O.contents output.old) (O.contents output.new)) }
-    ensures refused { IfErr result (λ e. (bytes : List ℕ) → is_mirror (revisions_of store.old) ≡ false
-        → path_read bytes ≡ Ok path → NotCommitted (repository_of store.old) bytes message.now moment store.new
-        (O.contents output.old) (O.contents output.new) (Rose (O.failures output.old) (O.failures output.new)) e) }
-    ensures device { IsSafe store.old → ServesOne (directory_entry (revisions_of store.old) path message.now moment)
-        store.old store.new result }
-    ensures peer { Counted result (O.failures output.old) (O.failures output.new) }
+    ensures ok { OnOk result
+        (IfSpelled store.old path (λ bytes. CommitsDirectory O.Output bytes message.now moment store.old output.old
+        store.new output.new)) }
+    ensures refused { IfErr result
+        (λ e. IfSpelled store.old path (λ bytes. RefusesDirectory O.Output bytes message.now moment store.old
+        output.old store.new output.new e)) }
+    ensures device { IsSafe store.old → ServesDirectory path message.now moment store.old store.new result }
+    ensures peer { TellsFailure O.failures output.old output.new result }
 {
     let set = one_directory(alloc, path)?;
     if message.len() > PROP_VALUE_BYTES {
@@ -166,17 +153,16 @@ pub fn run_mkdir<D: Disk + Drop, O: Output>(
     moment: Moment,
     output: &mut O,
 ) -> Result<(), Refusal>
-    ensures ok { OnOk result (IsCommitted (repository_of store.old) path.now message.now moment
-        (repository_of store.new) (O.contents output.old) (O.contents output.new)) }
-    ensures refused { IfErr result (NotCommitted (repository_of store.old) path.now message.now moment store.new
-        (O.contents output.old) (O.contents output.new) (Rose (O.failures output.old) (O.failures output.new))) }
-    ensures mirror { is_mirror (revisions_of store.old) ≡ true → IsErrOf result Refusal.ReadOnly }
+    ensures ok { OnOk result (CommitsDirectory O.Output path.now message.now moment store.old output.old store.new
+        output.new) }
+    ensures refused { IfErr result (RefusesDirectory O.Output path.now message.now moment store.old output.old
+        store.new output.new) }
+    ensures mirror { IsMirror store.old → IsErrOf result Refusal.ReadOnly }
     ensures device { Serves store.old store.new result }
     ensures entry { (place : Path) → path_read path.now ≡ Ok place
-        → ServesOne (directory_entry (revisions_of store.old) place message.now moment) store.old store.new result }
-    ensures durable { D.honest (disk_of store.new) → ¬ HasFailed store.new
-        → LeavesNow D.Disk (disk_of store.new) (Keeps (repository_of store.new)) }
-    ensures peer { Counted result (O.failures output.old) (O.failures output.new) }
+        → ServesDirectory place message.now moment store.old store.new result }
+    ensures durable { IfSound store.new (StopKeeps store.new) }
+    ensures peer { TellsFailure O.failures output.old output.new result }
 {
     refuse_mirror(store.repo())?;
     let place = path_of(alloc, path)?;

@@ -1,11 +1,7 @@
 //! Who is told of what a load has loaded.
-ghost use Rattle.std.specs.Prelude.{◌≡◌, ◌<◌, ◌⊎◌, ℕ, List, Option, length, IfErr, OnOk, OnErr};
-ghost use Rattle.std.specs.Io.KnownBytes.{Appends};
-ghost use Rattle.byte_streams.specs.Causes.{Rose};
-ghost use Rattle.fleet_disk.specs.Image.{Image};
-ghost use Rattle.repo_store.specs.Journal.{Keeps};
-ghost use Rattle.repo_store.specs.Words.{disk_of, repository_of, revisions_of};
-ghost use Rattle.fleet_engines.specs.Runs.{Counted};
+ghost use Rattle.std.specs.Prelude.{◌≡◌, ◌<◌, ◌⊎◌, ℕ, List, Option, length, OnOk, OnErr};
+ghost use Rattle.repo_store.specs.Words.{revisions_of, IsHonest, StopKeeps};
+ghost use Rattle.fleet_engines.specs.Streams.{FailedIn, OnlyPeerFails, TellsFailure, Writes};
 ghost use Rattle.store_engines.specs.Loads.{loaded_line};
 ghost use Rattle.store_engines.specs.Telling.{Telling, telling};
 
@@ -32,13 +28,12 @@ pub trait LoadReport {
     /// Tells of a revision that stands in a store. PeerFailed (49) where that failed, and only there.
     fn loaded<D: Disk + Drop>(&mut self, store: &RepoStore<D>, number: RevNo) -> Result<(), Refusal>
         requires there { number < length (revisions_of store.now) }
-        requires stands { D.honest (disk_of store.now) → (image : Image) → D.may_leave (disk_of store.now) image
-            → Keeps (repository_of store.now) image }
+        requires stands { IsHonest store.now → StopKeeps store.now }
         ensures nothing_else { (t : Telling) → told self.new t → told self.old t ⊎ (t ≡ telling store.now number) }
-        ensures ok { OnOk result (Appends (contents self.old) (contents self.new) (loaded_line number)) }
-        ensures peer { Counted result (failures self.old) (failures self.new) }
-        ensures failed { OnErr result (Rose (failures self.old) (failures self.new)) }
-        ensures only_peer { IfErr result (λ e. e ≡ Refusal.PeerFailed) };
+        ensures ok { OnOk result (Writes contents self.old self.new (loaded_line number)) }
+        ensures peer { TellsFailure failures self.old self.new result }
+        ensures failed { OnErr result (FailedIn failures self.old self.new) }
+        ensures only_peer { OnlyPeerFails result };
 }
 
 impl<O: Output> LoadReport for O {

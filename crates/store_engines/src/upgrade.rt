@@ -1,8 +1,7 @@
 //! `upgrade` over any disk and output.
 ghost use Rattle.std.specs.Prelude.{IfErr, OnOk};
-ghost use Rattle.byte_streams.specs.Causes.{Rose};
-ghost use Rattle.fleet_engines.specs.Runs.{Counted};
-ghost use Rattle.store_engines.specs.Upgrades.{IsUpgraded, NotUpgraded};
+ghost use Rattle.fleet_engines.specs.Streams.{TellsFailure};
+ghost use Rattle.store_engines.specs.Upgrades.{RefusesUpgrade, Upgrades};
 
 use byte_streams::Output;
 use fleet_disk::Disk;
@@ -23,10 +22,9 @@ pub fn run_upgrade<D: Disk + Drop, O: Output>(
     store: RepoStore<D>,
     output: &mut O,
 ) -> (D, Result<(), Refusal>)
-    ensures done { OnOk result.1 (IsUpgraded (O.contents output.old) (O.contents output.new) store result.0) }
-    ensures refused { IfErr result.1 (λ e. NotUpgraded (O.contents output.old) (O.contents output.new)
-        (Rose (O.failures output.old) (O.failures output.new)) e store result.0) }
-    ensures peer { Counted result.1 (O.failures output.old) (O.failures output.new) }
+    ensures done { OnOk result.1 (Upgrades O.Output output.old output.new store result.0) }
+    ensures refused { IfErr result.1 (RefusesUpgrade O.Output output.old output.new store result.0) }
+    ensures peer { TellsFailure O.failures output.old output.new result.1 }
 {
     match store.upgrade(alloc) {
         Ok((upgraded, count)) => {
