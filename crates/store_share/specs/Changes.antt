@@ -1,11 +1,17 @@
 -- What a change of a book comes to.
-use Rattle.std.specs.Prelude.{◌≡◌, ◌⊎◌, ◌+◌, ℕ, length, true, false, Option, None, Result, Ok, Err}
+use Rattle.std.specs.Prelude.{◌≡◌, ◌⊎◌, ◌+◌, ℕ, List, length, true, false, Option, None, Result, Ok, Err}
+use Rattle.dump_load.specs.declared.change.Change.{Change}
+use Rattle.node_base.specs.Path.{Name}
+use Rattle.node_base.specs.Props.{PropMap}
 use Rattle.fleet_disk.specs.declared.disk.Disk.{Ghosts}
 use Rattle.gate_log.specs.declared.fault.LogFault.TheVariants.{Failed}
+use Rattle.repo_core.specs.Refusals.{by_repository, change_fault, commit_fault, with_value}
+use Rattle.repo_core.specs.Repository.{props_at}
 use Rattle.repo_core.specs.declared.entry.Entry.{Entry}
 use Rattle.repo_core.specs.declared.entry.Entry.TheVariants.{Revised, Mapped}
+use Rattle.repo_core.specs.declared.expected.Expected.{Expected}
 use Rattle.repo_core.specs.declared.fault.RepoFault.{RepoFault}
-use Rattle.repo_store.specs.Changes.{IsTaken, IsBroken, Refuses, Stays}
+use Rattle.repo_store.specs.Changes.{next_entry, IsTaken, IsBroken, Refuses, Stays}
 use Rattle.repo_store.specs.Words.{repository_of, revisions_of}
 use Rattle.repo_store.specs.declared.fault.StoreFault.{StoreFault}
 use Rattle.repo_store.specs.declared.fault.StoreFault.TheVariants.{Log}
@@ -15,7 +21,7 @@ use Rattle.store_share.specs.Shown.{Shows}
 use Rattle.store_share.specs.declared.book.MasterBook.{MasterBook}
 use Rattle.store_share.specs.declared.show.Stuck.{Stuck}
 use Rattle.store_share.specs.declared.show.Stuck.TheVariants.{Device, Cell}
-use Rattle.store_share.specs.Book.{store_of, head_of, is_stuck}
+use Rattle.store_share.specs.Book.{store_of, head_of, is_stuck, revs_of}
 
 -- a staged revision is written and shown; or the device fails, and nothing more is shown; or the cell refuses it, and the entry stands
 abbrev pub Carries : {D : Type 0} {G : Ghosts D} → Entry → RepoStore D G → RepoStore D G → RowNotes → Result (Unit {0}) Stuck → Type 0
@@ -79,3 +85,22 @@ pub record IsCommitFrom {L D : Type 0} {r : _} {g : Ghosts D} (old : MasterBook 
 abbrev pub Edits : {L D : Type 0} {r : _} {g : _} {T : Type 0} → Entry → Option RepoFault → MasterBook L D r g → MasterBook L D r g → Result T StoreFault → Type 0
 Edits entry due old new (Ok done) = IsAccepted entry due old new
 Edits entry due old new (Err e) = IsLeft entry due old new e ⊎ IsBrokenOff entry due old new e
+
+-- a commit of that set against that base, with these properties
+abbrev pub CommitsSet : {L D : Type 0} {r : _} {g : _} → ℕ → List Change → PropMap → MasterBook L D r g → MasterBook L D r g → Result ℕ StoreFault → Type 0
+CommitsSet base set props old new result =
+    let entry = next_entry (revs_of old) set props in Commits entry (commit_fault (revs_of old) base entry) old new result
+
+-- such a commit from that book
+abbrev pub IsSetFrom : {L D : Type 0} {r : _} {g : Ghosts D} → ℕ → List Change → PropMap → MasterBook L D r g → Result ℕ StoreFault → Type 0
+IsSetFrom base set props old result =
+    let entry = next_entry (revs_of old) set props in IsCommitFrom old entry (commit_fault (revs_of old) base entry) result
+
+-- a change of one property
+abbrev pub EditsProp : {L D : Type 0} {r : _} {g : _} {T : Type 0} → ℕ → Name → Option (List ℕ) → Expected → MasterBook L D r g → MasterBook L D r g → Result T StoreFault → Type 0
+EditsProp number name value expected old new result =
+    Edits (Mapped number (with_value (props_at (revs_of old) number) name value)) (change_fault (revs_of old) number name value expected) old new result
+
+-- a change by that entry
+abbrev pub EditsEntry : {L D : Type 0} {r : _} {g : _} {T : Type 0} → Entry → MasterBook L D r g → MasterBook L D r g → Result T StoreFault → Type 0
+EditsEntry entry old new result = Edits entry (by_repository (revs_of old) entry) old new result

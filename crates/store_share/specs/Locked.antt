@@ -2,12 +2,21 @@
 -- were two books, each with all that a book keeps.
 use Rattle.std.specs.Prelude.{◌≡◌, ◌<◌, ◌≤◌, ◌⊎◌, ℕ, List, Option, Result}
 use Rattle.fleet_disk.specs.declared.disk.Disk.{Ghosts}
+use Rattle.gate_log.specs.declared.fault.LogFault.TheVariants.{OutOfMemory}
+use Rattle.dump_load.specs.declared.change.Change.{Change}
+use Rattle.node_base.specs.Path.{Name}
 use Rattle.node_base.specs.Props.{PropMap}
+use Rattle.repo_core.specs.Refusals.{by_repository, change_fault, commit_fault, with_value}
 use Rattle.repo_core.specs.Repository.{Revision, props_at}
 use Rattle.repo_core.specs.declared.entry.Entry.{Entry}
+use Rattle.repo_core.specs.declared.entry.Entry.TheVariants.{Mapped}
+use Rattle.repo_core.specs.declared.expected.Expected.{Expected}
 use Rattle.repo_core.specs.declared.fault.RepoFault.{RepoFault}
+use Rattle.repo_core.specs.declared.fault.RepoFault.TheVariants.{NoSuchRevision}
+use Rattle.repo_store.specs.Changes.{next_entry}
 use Rattle.repo_store.specs.Words.{identity_of, repository_of, revisions_of, IsKept}
 use Rattle.repo_store.specs.declared.fault.StoreFault.{StoreFault}
+use Rattle.repo_store.specs.declared.fault.StoreFault.TheVariants.{Repo, Log}
 use Rattle.store_share.specs.Row.{rev_at}
 use Rattle.store_share.specs.Book.{head_of, store_of}
 use Rattle.store_share.specs.Changes.{Commits, Edits}
@@ -61,3 +70,24 @@ pub record IsEditOf {L D : Type 0} {r : _} {g : Ghosts D} {T : Type 0} (share : 
   pub old : MasterBook L D r g
   pub new : MasterBook L D r g
   pub edits : Edits (entry (revisions_of (store_of old))) (due (revisions_of (store_of old))) old new result
+
+-- a commit by a book: of that set against that base, with these properties
+abbrev pub IsSetOf : {L D : Type 0} {r : _} {g : Ghosts D} → MasterShare L D r g → ℕ → List Change → PropMap → Result ℕ StoreFault → Type 0
+IsSetOf share base set props result = IsCommitOf share (λ x. next_entry x set props) (λ x. commit_fault x base (next_entry x set props)) result
+
+-- a change of one property by a book
+abbrev pub IsPropOf : {L D : Type 0} {r : _} {g : Ghosts D} {T : Type 0} → MasterShare L D r g → ℕ → Name → Option (List ℕ) → Expected → Result T StoreFault → Type 0
+IsPropOf share number name value expected result =
+    IsEditOf share (λ x. Mapped number (with_value (props_at x number) name value)) (λ x. change_fault x number name value expected) result
+
+-- a change by a book: by that entry, whatever its revisions are
+abbrev pub IsChangeOf : {L D : Type 0} {r : _} {g : Ghosts D} {T : Type 0} → MasterShare L D r g → Entry → Result T StoreFault → Type 0
+IsChangeOf share entry result = IsEditOf share (λ _. entry) (λ x. by_repository x entry) result
+
+-- a book gives nothing of a number: it shows none of it (21), or memory ran out (70)
+abbrev pub IsUnfetched : StoreFault → Type 0
+IsUnfetched e = (e ≡ Repo NoSuchRevision) ⊎ (e ≡ Log OutOfMemory)
+
+-- 21 comes only where a book shows none of it
+abbrev pub TellsAbove : {L D : Type 0} {r : _} {g : Ghosts D} → MasterShare L D r g → ℕ → StoreFault → Type 0
+TellsAbove share number e = e ≡ Repo NoSuchRevision → IsAbove share number

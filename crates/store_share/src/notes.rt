@@ -1,6 +1,6 @@
 //! What a thread knows of a row.
-ghost use Rattle.std.specs.Prelude.{◌≡◌, ◌≢◌, ◌<◌, ◌≤◌, ℕ, length, Some, IsSome};
-ghost use Rattle.store_share.specs.Row.{Rev as RevOf, cells_in, known_at};
+ghost use Rattle.std.specs.Prelude.{◌≡◌, ◌<◌, ◌≤◌, ℕ, length, Some, IsSome};
+ghost use Rattle.store_share.specs.Row.{cells_in, known_at, CellsStay, ChangeOnly, KnowAlike, KnowsToo, Rev as RevOf};
 
 use crate::rev::Rev;
 use node_base::RevNo;
@@ -19,9 +19,9 @@ impl RowNotes {
         requires cells { cells_in self.old ≡ cells_in from.old }
         requires within { last < length (cells_in from.old) }
         requires known { (r : ℕ) → r ≤ last → IsSome (known_at from.old r) }
-        ensures other { cells_in from.new ≡ cells_in from.old }
-        ensures others { (r : ℕ) → known_at from.new r ≡ known_at from.old r }
-        ensures cells { cells_in self.new ≡ cells_in self.old }
+        ensures other { CellsStay from.old from.new }
+        ensures others { KnowAlike from.old from.new }
+        ensures cells { CellsStay self.old self.new }
         ensures learned { (r : ℕ) → r ≤ last → known_at self.new r ≡ known_at from.old r }
         ensures agreed { (r : ℕ) (x : RevOf) → r ≤ last → known_at self.old r ≡ Some x
             → known_at from.old r ≡ Some x }
@@ -37,12 +37,12 @@ impl RowNotes {
         requires cells { cells_in self.old ≡ cells_in from.old }
         requires within { i < length (cells_in from.old) }
         requires known { IsSome (known_at from.old i) }
-        ensures other { cells_in from.new ≡ cells_in from.old }
-        ensures others { (r : ℕ) → known_at from.new r ≡ known_at from.old r }
-        ensures cells { cells_in self.new ≡ cells_in self.old }
+        ensures other { CellsStay from.old from.new }
+        ensures others { KnowAlike from.old from.new }
+        ensures cells { CellsStay self.old self.new }
         ensures learned { known_at self.new i ≡ known_at from.old i }
-        ensures agreed { (x : RevOf) → known_at self.old i ≡ Some x → known_at from.old i ≡ Some x }
-        ensures rest { (r : ℕ) → r ≢ i → known_at self.new r ≡ known_at self.old r }
+        ensures agreed { KnowsToo (known_at self.old i) (known_at from.old i) }
+        ensures rest { ChangeOnly i self.old self.new }
     {
         let theirs = from.notes[i].again();
         meet_note(&mut self.notes[i], theirs);
@@ -54,7 +54,7 @@ fn meet_note(mine: &mut Note<Rev>, theirs: Note<Rev>)
     requires cell { theirs.cell ≡ mine.old.cell }
     requires known { IsSome theirs.known }
     ensures now { mine.new ≡ theirs }
-    ensures agreed { (x : RevOf) → mine.old.known ≡ Some x → theirs.known ≡ Some x }
+    ensures agreed { KnowsToo mine.old.known theirs.known }
 {
     let mut theirs = theirs;
     mine.compare(theirs.again());

@@ -1,5 +1,5 @@
 //! An opened store, whose row has no name yet.
-ghost use Rattle.std.specs.Prelude.{◌≡◌, length, false, IfOk, IfErr};
+ghost use Rattle.std.specs.Prelude.{◌≡◌, length, IfOk, IfErr};
 ghost use Rattle.repo_store.specs.Words.{repository_of, revisions_of};
 ghost use Rattle.store_share.specs.Row.{cells_in, known_at, rev_at};
 ghost use Rattle.store_share.specs.Facts.{shown_prop};
@@ -29,7 +29,7 @@ pub struct OpenedStore<D: Disk> {
 
 impl<D: Disk> OpenedStore<D> {
     ghost use Rattle.store_share.specs.Opened.{cells_of, store_in};
-    ghost use Rattle.store_share.specs.Book.{is_stuck, store_of};
+    ghost use Rattle.store_share.specs.Book.{IsBookOf};
     ghost use Rattle.store_share.specs.Locked.{row_of};
 
     /// The row of a store. Only want of memory (70) refuses it, or a cell (32), which doesn't come; the store is handed
@@ -57,7 +57,7 @@ impl<D: Disk> OpenedStore<D> {
     /// The book of the store under the row's name, and the row: what a share is made of.
     pub fn into_book<L: RowName>(self) -> (MasterBook<L, D>, RevRow)
         requires { cells_of self ≡ L.cells }
-        ensures book { (store_of result.0 ≡ store_in self) × (is_stuck result.0 ≡ false) }
+        ensures book { IsBookOf (store_in self) result.0 }
         ensures row { result.1 ≡ L.cells }
     {
         let OpenedStore { store, row, notes } = self;

@@ -1,9 +1,10 @@
 //! The row.
-ghost use Rattle.std.specs.Prelude.{◌≡◌, ◌≢◌, ◌<◌, ◌≤◌, ℕ, List, length, slice_index};
+ghost use Rattle.std.specs.Prelude.{◌≡◌, ◌≢◌, ◌<◌, ℕ, List, length, slice_index};
 ghost use Rattle.std.specs.Prelude.{Some, None, IsSome, IfSome, IfNone, IfOk, IfErr, OnOk};
-ghost use Rattle.repo_store.specs.Words.{repository_of, revisions_of};
-ghost use Rattle.store_share.specs.Row.{Rev as RevOf, cells_in, known_at, rev_at};
-ghost use Rattle.store_share.specs.declared.fault.RowFault.TheVariants as fault;
+ghost use Rattle.repo_store.specs.Words.{repository_of};
+ghost use Rattle.store_share.specs.Row.{cells_in, known_at, rev_at, CellsStay, ChangeOnly, IsSetAlready, KeepKnown};
+ghost use Rattle.store_share.specs.Row.{Knows, KnowsToo, ReadsKnown, Rev as RevOf};
+ghost use Rattle.store_share.specs.Shown.{KnowsNoMore, KnowsWhole, ShowsWhole};
 
 use crate::fault::RowFault;
 use crate::notes::RowNotes;
@@ -55,10 +56,9 @@ impl RevRow {
     ) -> Result<(RevRow, RowNotes), RowFault>
         ensures size { IfOk result (λ p. length p.0 ≡ 65536) }
         ensures cells { IfOk result (λ p. cells_in p.1 ≡ p.0) }
-        ensures shown { IfOk result (λ p. (r : ℕ) → r < length (revisions_of store.now)
-            → known_at p.1 r ≡ rev_at (repository_of store.now) r) }
-        ensures there { IfOk result (λ p. (r : ℕ) → r < length (revisions_of store.now) → IsSome (known_at p.1 r)) }
-        ensures empty { IfOk result (λ p. (r : ℕ) → length (revisions_of store.now) ≤ r → known_at p.1 r ≡ None) }
+        ensures shown { IfOk result (λ p. ShowsWhole (repository_of store.now) p.1) }
+        ensures there { IfOk result (λ p. KnowsWhole (repository_of store.now) p.1) }
+        ensures empty { IfOk result (λ p. KnowsNoMore (repository_of store.now) p.1) }
     {
         let row = RevRow::new(alloc)?;
         let mut notes = row.notes(alloc)?;
@@ -94,9 +94,8 @@ impl RevRow {
         ensures cell { note.new.cell ≡ note.old.cell }
         ensures value { IfSome result (λ r. (note.new.known ≡ Some r.now) × (r.now.number ≡ number)) }
         ensures none { IfNone result ((x : RevOf) → note.new.known ≡ Some x → x.number ≢ number) }
-        ensures kept { (x : RevOf) → note.old.known ≡ Some x → note.new.known ≡ Some x }
-        ensures known { (x : RevOf) → note.old.known ≡ Some x → x.number ≡ number
-            → IfSome result (λ r. r.now ≡ x) × (IfNone result ⊥) }
+        ensures kept { KnowsToo note.old.known note.new.known }
+        ensures known { ReadsKnown note.old.known number result }
     {
         let rev = self.cells[number.index()].get_as(note)?;
         if rev.number == number {
@@ -117,8 +116,8 @@ impl RevRow {
         requires { note.old.cell ≡ slice_index self.now rev.value.number }
         ensures cell { note.new.cell ≡ note.old.cell }
         ensures shown { OnOk result ((note.old.known ≡ None) × (note.new.known ≡ Some rev.value)) }
-        ensures kept { (x : RevOf) → note.old.known ≡ Some x → note.new.known ≡ Some x }
-        ensures refused { IfErr result (λ e. (e ≡ fault.Failed) × IsSome note.new.known) }
+        ensures kept { KnowsToo note.old.known note.new.known }
+        ensures refused { IfErr result (IsSetAlready note.new.known) }
     {
         let _receipt = receipt;
         self.set(rev, note)
@@ -127,12 +126,11 @@ impl RevRow {
     /// The same of notes: the revision that the cell of that number shows.
     pub fn see<'a>(&'a self, number: RevNo, notes: &mut RowNotes) -> Option<&'a Rev>
         requires { cells_in notes.old ≡ self.now }
-        ensures cells { cells_in notes.new ≡ cells_in notes.old }
+        ensures cells { CellsStay notes.old notes.new }
         ensures value { IfSome result (λ r. (known_at notes.new number ≡ Some r.now) × (r.now.number ≡ number)) }
-        ensures others { (r : ℕ) → r ≢ number → known_at notes.new r ≡ known_at notes.old r }
-        ensures kept { (r : ℕ) (x : RevOf) → known_at notes.old r ≡ Some x → known_at notes.new r ≡ Some x }
-        ensures known { (x : RevOf) → known_at notes.old number ≡ Some x → x.number ≡ number
-            → IfSome result (λ r. r.now ≡ x) × (IfNone result ⊥) }
+        ensures others { ChangeOnly number notes.old notes.new }
+        ensures kept { KeepKnown notes.old notes.new }
+        ensures known { ReadsKnown (known_at notes.old number) number result }
     {
         self.size();
         let note = &mut notes.notes[number.index()];
@@ -147,11 +145,11 @@ impl RevRow {
         notes: &mut RowNotes,
     ) -> Result<(), RowFault>
         requires { cells_in notes.old ≡ self.now }
-        ensures cells { cells_in notes.new ≡ cells_in notes.old }
-        ensures shown { OnOk result (known_at notes.new rev.value.number ≡ Some rev.value) }
-        ensures others { (r : ℕ) → r ≢ rev.value.number → known_at notes.new r ≡ known_at notes.old r }
-        ensures kept { (r : ℕ) (x : RevOf) → known_at notes.old r ≡ Some x → known_at notes.new r ≡ Some x }
-        ensures refused { IfErr result (λ e. (e ≡ fault.Failed) × IsSome (known_at notes.new rev.value.number)) }
+        ensures cells { CellsStay notes.old notes.new }
+        ensures shown { OnOk result (Knows notes.new rev.value) }
+        ensures others { ChangeOnly rev.value.number notes.old notes.new }
+        ensures kept { KeepKnown notes.old notes.new }
+        ensures refused { IfErr result (IsSetAlready (known_at notes.new rev.value.number)) }
     {
         let _receipt = receipt;
         self.put(rev, notes)
@@ -161,11 +159,10 @@ impl RevRow {
     fn put_all(&self, alloc: Global, repo: &Repo, notes: &mut RowNotes) -> Result<(), RowFault>
         requires cells { cells_in notes.old ≡ self.now }
         requires nothing { (r : ℕ) → known_at notes.old r ≡ None }
-        ensures cells { cells_in notes.new ≡ cells_in notes.old }
-        ensures shown { OnOk result ((r : ℕ) → r < length repo.now.revisions
-            → known_at notes.new r ≡ rev_at repo.now r) }
-        ensures there { OnOk result ((r : ℕ) → r < length repo.now.revisions → IsSome (known_at notes.new r)) }
-        ensures empty { OnOk result ((r : ℕ) → length repo.now.revisions ≤ r → known_at notes.new r ≡ None) }
+        ensures cells { CellsStay notes.old notes.new }
+        ensures shown { OnOk result (ShowsWhole repo.now notes.new) }
+        ensures there { OnOk result (KnowsWhole repo.now notes.new) }
+        ensures empty { OnOk result (KnowsNoMore repo.now notes.new) }
     {
         for i in 0..repo.head().index() + 1 {
             self.put_one(alloc, repo, RevNo::new(i as u16), notes)?;
@@ -183,10 +180,10 @@ impl RevRow {
     ) -> Result<(), RowFault>
         requires cells { cells_in notes.old ≡ self.now }
         requires there { number < length repo.now.revisions }
-        ensures cells { cells_in notes.new ≡ cells_in notes.old }
+        ensures cells { CellsStay notes.old notes.new }
         ensures shown { OnOk result (known_at notes.new number ≡ rev_at repo.now number) }
         ensures there { OnOk result (IsSome (known_at notes.new number)) }
-        ensures others { (r : ℕ) → r ≢ number → known_at notes.new r ≡ known_at notes.old r }
+        ensures others { ChangeOnly number notes.old notes.new }
     {
         let rev = match rev_of(alloc, repo, number) {
             Ok(rev) => rev,
@@ -198,11 +195,11 @@ impl RevRow {
     // Shows a revision in the cell of its number.
     fn put(&self, rev: Box<Rev>, notes: &mut RowNotes) -> Result<(), RowFault>
         requires { cells_in notes.old ≡ self.now }
-        ensures cells { cells_in notes.new ≡ cells_in notes.old }
-        ensures shown { OnOk result (known_at notes.new rev.value.number ≡ Some rev.value) }
-        ensures others { (r : ℕ) → r ≢ rev.value.number → known_at notes.new r ≡ known_at notes.old r }
-        ensures kept { (r : ℕ) (x : RevOf) → known_at notes.old r ≡ Some x → known_at notes.new r ≡ Some x }
-        ensures refused { IfErr result (λ e. (e ≡ fault.Failed) × IsSome (known_at notes.new rev.value.number)) }
+        ensures cells { CellsStay notes.old notes.new }
+        ensures shown { OnOk result (Knows notes.new rev.value) }
+        ensures others { ChangeOnly rev.value.number notes.old notes.new }
+        ensures kept { KeepKnown notes.old notes.new }
+        ensures refused { IfErr result (IsSetAlready (known_at notes.new rev.value.number)) }
     {
         self.size();
         let number = rev.number;
@@ -215,8 +212,8 @@ impl RevRow {
         requires { note.old.cell ≡ slice_index self.now rev.value.number }
         ensures cell { note.new.cell ≡ note.old.cell }
         ensures shown { OnOk result ((note.old.known ≡ None) × (note.new.known ≡ Some rev.value)) }
-        ensures kept { (x : RevOf) → note.old.known ≡ Some x → note.new.known ≡ Some x }
-        ensures refused { IfErr result (λ e. (e ≡ fault.Failed) × IsSome note.new.known) }
+        ensures kept { KnowsToo note.old.known note.new.known }
+        ensures refused { IfErr result (IsSetAlready note.new.known) }
     {
         let number = rev.number;
         match self.cells[number.index()].set_as(rev, note) {

@@ -1,7 +1,6 @@
 //! The seat of a reader.
-ghost use Rattle.std.specs.Prelude.{◌≡◌, ◌≤◌, ◌⊎◌, ℕ, Some, IfSome, IfNone, length};
-ghost use Rattle.store_share.specs.Row.{cells_in, known_at};
-ghost use Rattle.store_share.specs.declared.rev.Rev.{Rev as RevOf};
+ghost use Rattle.std.specs.Prelude.{◌≡◌, ◌≤◌, ◌⊎◌, ℕ, Some, IfNone, length};
+ghost use Rattle.store_share.specs.Row.{cells_in, known_at, ReadsKnown};
 ghost use Rattle.store_share.specs.Chains.{IsChain};
 ghost use Rattle.store_share.specs.Facts.{number_prop};
 ghost use Rattle.store_share.specs.Shown.{number_known};
@@ -27,7 +26,8 @@ pub struct ReaderSeat<L: RowName> {
 }
 
 impl<L: RowName> ReaderSeat<L> {
-    ghost use Rattle.store_share.specs.Seats.{seen_by, known_by};
+    ghost use Rattle.store_share.specs.Seats.{known_by, seen_by, AgreeUpTo, KeepsFound, KeepsSeen, ReadsAs};
+    ghost use Rattle.store_share.specs.Seats.{ReadsSeen, SeesOn};
 
     /// The greatest revision that it has seen.
     pub fn seen(&self) -> RevNo
@@ -50,25 +50,23 @@ impl<L: RowName> ReaderSeat<L> {
     pub fn read_in<'a>(&mut self, row: &'a RevRow, number: RevNo) -> Option<&'a Rev>
         requires { row.now ≡ L.cells }
         ensures there { number ≤ seen_by self.old → IfNone result ⊥ }
-        ensures value { (x : RevOf) → number ≤ seen_by self.old → known_by self.old number ≡ Some x
-            → IfSome result (λ r. r.now ≡ x) }
-        ensures again { (x : RevOf) → known_by self.old number ≡ Some x → x.number ≡ number
-            → IfSome result (λ r. r.now ≡ x) × (IfNone result ⊥) }
-        ensures number { IfSome result (λ r. (r.now.number ≡ number) × (known_by self.new number ≡ Some r.now)) }
+        ensures value { ReadsSeen self.old number result }
+        ensures again { ReadsKnown (known_by self.old number) number result }
+        ensures number { ReadsAs self.new number result }
         ensures seen { seen_by self.new ≡ seen_by self.old }
-        ensures kept { (r : ℕ) (x : RevOf) → known_by self.old r ≡ Some x → known_by self.new r ≡ Some x }
+        ensures kept { KeepsFound self.old self.new }
     {
         row.see(number, &mut self.notes)
     }
 
     /// What either has seen both have seen from then on. What they read of these is the same, and what it was.
     pub fn meet(&mut self, other: &mut ReaderSeat<L>)
-        ensures most { (seen_by self.old ≤ seen_by self.new) × (seen_by other.old ≤ seen_by self.new) }
+        ensures most { (SeesOn self.old self.new) × (seen_by other.old ≤ seen_by self.new) }
         ensures one { (seen_by self.new ≡ seen_by self.old) ⊎ (seen_by self.new ≡ seen_by other.old) }
         ensures same { seen_by other.new ≡ seen_by self.new }
-        ensures agreed { (r : ℕ) → r ≤ seen_by self.new → known_by self.new r ≡ known_by other.new r }
-        ensures kept { (r : ℕ) → r ≤ seen_by self.old → known_by self.new r ≡ known_by self.old r }
-        ensures kept_other { (r : ℕ) → r ≤ seen_by other.old → known_by other.new r ≡ known_by other.old r }
+        ensures agreed { AgreeUpTo (seen_by self.new) self.new other.new }
+        ensures kept { KeepsSeen self.old self.new }
+        ensures kept_other { KeepsSeen other.old other.new }
     {
         if self.seen < other.seen {
             self.learn(other);
@@ -81,8 +79,8 @@ impl<L: RowName> ReaderSeat<L> {
     fn learn(&mut self, other: &mut ReaderSeat<L>)
         requires { seen_by self.old ≤ seen_by other.old }
         ensures seen { (seen_by self.new ≡ seen_by other.old) × (seen_by other.new ≡ seen_by other.old) }
-        ensures agreed { (r : ℕ) → r ≤ seen_by other.old → known_by self.new r ≡ known_by other.new r }
-        ensures kept { (r : ℕ) → r ≤ seen_by self.old → known_by self.new r ≡ known_by self.old r }
+        ensures agreed { AgreeUpTo (seen_by other.old) self.new other.new }
+        ensures kept { KeepsSeen self.old self.new }
         ensures other { (r : ℕ) → known_by other.new r ≡ known_by other.old r }
     {
         self.notes.learn(&mut other.notes, other.seen);

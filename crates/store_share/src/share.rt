@@ -1,15 +1,10 @@
 //! A store behind its lock, with its row beside it.
-ghost use Rattle.std.specs.Prelude.{◌≡◌, ◌≤◌, ◌<◌, ◌⊎◌, ℕ, length, Some, None, IfOk, IfErr, IfSome, IfNone, OnOk};
-ghost use Rattle.std.specs.Option.{option_copied, option_map};
-ghost use Rattle.gate_log.specs.declared.fault.LogFault.TheVariants as log;
+ghost use Rattle.std.specs.Prelude.{◌≡◌, ◌≤◌, ◌<◌, None, IfOk, IfErr, IfNone, OnOk};
+ghost use Rattle.std.specs.Option.{option_copied};
 ghost use Rattle.repo_core.specs.Dates.{dated};
-ghost use Rattle.repo_core.specs.Refusals.{by_repository, change_fault, commit_fault, with_value};
-ghost use Rattle.repo_core.specs.Repository.{props_at};
-ghost use Rattle.repo_core.specs.declared.entry.Entry.TheVariants.{Revised, Mapped};
-ghost use Rattle.repo_core.specs.declared.fault.RepoFault.TheVariants as core;
-ghost use Rattle.repo_store.specs.declared.fault.StoreFault.TheVariants as fault;
-ghost use Rattle.store_share.specs.declared.rev.Rev.{Rev as RevOf};
-ghost use Rattle.store_share.specs.Seats.{known_by, seen_by};
+ghost use Rattle.repo_core.specs.declared.entry.Entry.TheVariants.{Mapped};
+ghost use Rattle.store_share.specs.Row.{HasChanges, ReadsKnown};
+ghost use Rattle.store_share.specs.Seats.{known_by, seen_by, KeepsFound, KeepsSeen, ReadsAs, ReadsSeen, SeesOn};
 
 use crate::book::MasterBook;
 use crate::name::RowName;
@@ -34,8 +29,8 @@ pub struct MasterShare<L: RowName, D: Disk> {
 }
 
 impl<L: RowName, D: Disk> MasterShare<L, D> {
-    ghost use Rattle.store_share.specs.Locked.{row_of, HasIdentity, HasProps, IsAbove, IsCommitOf, IsEditOf, IsNewest};
-    ghost use Rattle.store_share.specs.Locked.{IsShownTo};
+    ghost use Rattle.store_share.specs.Locked.{row_of, HasIdentity, HasProps, IsChangeOf, IsNewest, IsPropOf, IsSetOf};
+    ghost use Rattle.store_share.specs.Locked.{IsShownTo, IsUnfetched, TellsAbove};
     ghost use Rattle.store_share.specs.Whole.{IsWhole};
 
     /// A book behind a lock, and its row.
@@ -78,8 +73,8 @@ impl<L: RowName, D: Disk> MasterShare<L, D> {
     pub fn latest<R: Wait>(&self, rt: &R, reader: &mut ReaderSeat<L>) -> RevNo
         ensures most { seen_by reader.old ≤ result }
         ensures seen { seen_by reader.new ≡ result }
-        ensures kept { (r : ℕ) → r ≤ seen_by reader.old → known_by reader.new r ≡ known_by reader.old r }
-        ensures found { (r : ℕ) (x : RevOf) → known_by reader.old r ≡ Some x → known_by reader.new r ≡ Some x }
+        ensures kept { KeepsSeen reader.old reader.new }
+        ensures found { KeepsFound reader.old reader.new }
         ensures newest { IsNewest self.now (seen_by reader.old) reader.new result }
     {
         self.book.lock(rt).latest(reader)
@@ -89,13 +84,11 @@ impl<L: RowName, D: Disk> MasterShare<L, D> {
     /// no memory. What the reader has seen it reads for good, and so what it was given once.
     pub fn read_at<'a>(&'a self, reader: &mut ReaderSeat<L>, number: RevNo) -> Option<&'a Rev>
         ensures there { number ≤ seen_by reader.old → IfNone result ⊥ }
-        ensures value { (x : RevOf) → number ≤ seen_by reader.old → known_by reader.old number ≡ Some x
-            → IfSome result (λ r. r.now ≡ x) }
-        ensures again { (x : RevOf) → known_by reader.old number ≡ Some x → x.number ≡ number
-            → IfSome result (λ r. r.now ≡ x) × (IfNone result ⊥) }
-        ensures number { IfSome result (λ r. (r.now.number ≡ number) × (known_by reader.new number ≡ Some r.now)) }
+        ensures value { ReadsSeen reader.old number result }
+        ensures again { ReadsKnown (known_by reader.old number) number result }
+        ensures number { ReadsAs reader.new number result }
         ensures seen { seen_by reader.new ≡ seen_by reader.old }
-        ensures kept { (r : ℕ) (x : RevOf) → known_by reader.old r ≡ Some x → known_by reader.new r ≡ Some x }
+        ensures kept { KeepsFound reader.old reader.new }
     {
         reader.read_in(&self.row, number)
     }
@@ -113,12 +106,11 @@ impl<L: RowName, D: Disk> MasterShare<L, D> {
         props: Props,
         moment: Option<Moment>,
     ) -> Result<RevNo, StoreFault>
-        ensures commits { IsCommitOf self.now (λ x. Revised (length x) set (dated props moment))
-            (λ x. commit_fault x base (Revised (length x) set (dated props moment))) result }
+        ensures commits { IsSetOf self.now base set (dated props moment) result }
         ensures seen { IfOk result (λ n. n ≤ seen_by reader.new) }
-        ensures later { seen_by reader.old ≤ seen_by reader.new }
-        ensures set { IfOk result (λ n. option_map (λ x. x.set) (known_by reader.new n) ≡ Some set) }
-        ensures kept { (r : ℕ) → r ≤ seen_by reader.old → known_by reader.new r ≡ known_by reader.old r }
+        ensures later { SeesOn reader.old reader.new }
+        ensures set { IfOk result (λ n. HasChanges (known_by reader.new n) set) }
+        ensures kept { KeepsSeen reader.old reader.new }
     {
         self.book
             .lock(rt)
@@ -136,9 +128,7 @@ impl<L: RowName, D: Disk> MasterShare<L, D> {
         value: Option<&[u8]>,
         expected: &Expected,
     ) -> Result<(), StoreFault>
-        ensures { let value = option_copied value.entry in
-            IsEditOf self.now (λ x. Mapped number (with_value (props_at x number) name.now value))
-            (λ x. change_fault x number name.now value expected.now) result }
+        ensures { IsPropOf self.now number name.now (option_copied value.entry) expected.now result }
     {
         self.book
             .lock(rt)
@@ -154,7 +144,7 @@ impl<L: RowName, D: Disk> MasterShare<L, D> {
         number: RevNo,
         props: Props,
     ) -> Result<(), StoreFault>
-        ensures { IsEditOf self.now (λ _. Mapped number props) (λ x. by_repository x (Mapped number props)) result }
+        ensures { IsChangeOf self.now (Mapped number props) result }
     {
         self.book.lock(rt).put_props(alloc, number, props)
     }
@@ -162,8 +152,8 @@ impl<L: RowName, D: Disk> MasterShare<L, D> {
     /// The properties that a revision has now. NoSuchRevision (21) above the head, OutOfMemory (70).
     pub fn fetch_props<R: Wait>(&self, rt: &R, number: RevNo) -> Result<Props, StoreFault>
         ensures props { IfOk result (HasProps self.now number) }
-        ensures refused { IfErr result (λ e. (e ≡ fault.Repo core.NoSuchRevision) ⊎ (e ≡ fault.Log log.OutOfMemory)) }
-        ensures above { IfErr result (λ e. e ≡ fault.Repo core.NoSuchRevision → IsAbove self.now number) }
+        ensures refused { IfErr result IsUnfetched }
+        ensures above { IfErr result (TellsAbove self.now number) }
     {
         self.book.lock(rt).fetch_props(number)
     }
@@ -178,12 +168,12 @@ impl<L: RowName, D: Disk> MasterShare<L, D> {
         number: RevNo,
     ) -> Result<(ChangeSet, Props), StoreFault>
         ensures within { IfOk result (λ p. number ≤ seen_by reader.new) }
-        ensures set { IfOk result (λ p. option_map (λ x. x.set) (known_by reader.new number) ≡ Some p.0) }
+        ensures set { IfOk result (λ p. HasChanges (known_by reader.new number) p.0) }
         ensures props { IfOk result (λ p. HasProps self.now number p.1) }
-        ensures kept { (r : ℕ) → r ≤ seen_by reader.old → known_by reader.new r ≡ known_by reader.old r }
-        ensures seen { seen_by reader.old ≤ seen_by reader.new }
-        ensures refused { IfErr result (λ e. (e ≡ fault.Repo core.NoSuchRevision) ⊎ (e ≡ fault.Log log.OutOfMemory)) }
-        ensures above { IfErr result (λ e. e ≡ fault.Repo core.NoSuchRevision → IsAbove self.now number) }
+        ensures kept { KeepsSeen reader.old reader.new }
+        ensures seen { SeesOn reader.old reader.new }
+        ensures refused { IfErr result IsUnfetched }
+        ensures above { IfErr result (TellsAbove self.now number) }
     {
         self.book.lock(rt).fetch(alloc, reader, number)
     }

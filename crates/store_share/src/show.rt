@@ -1,8 +1,8 @@
 //! Writing a staged revision, and showing it.
-ghost use Rattle.std.specs.Prelude.{◌≡◌, length, Some, IsSome, IfOk};
-ghost use Rattle.repo_store.specs.Words.{entry_in, tree_in, repository_of, revisions_of, IsReadyFor};
-ghost use Rattle.store_share.specs.Row.{cells_in};
-ghost use Rattle.store_share.specs.Shown.{rev_from, Shows};
+ghost use Rattle.std.specs.Prelude.{◌≡◌, Some, IsSome, IfOk};
+ghost use Rattle.repo_store.specs.Words.{entry_in, repository_of, IsReadyFor};
+ghost use Rattle.store_share.specs.Row.{cells_in, CellsStay};
+ghost use Rattle.store_share.specs.Shown.{staged_rev, ShowsWhole};
 ghost use Rattle.store_share.specs.Changes.{Carries};
 
 use crate::notes::RowNotes;
@@ -32,9 +32,9 @@ pub(crate) fn carry_out<D: Disk>(
 ) -> Result<(), Stuck>
     requires cells { cells_in notes.old ≡ row.now }
     requires ready { IsReadyFor store.old staged }
-    requires rev { rev_from (entry_in staged) (tree_in staged) ≡ Some rev.value }
-    requires shown { Shows (length (revisions_of store.old)) notes.old (repository_of store.old) }
-    ensures cells { cells_in notes.new ≡ cells_in notes.old }
+    requires rev { staged_rev staged ≡ Some rev.value }
+    requires shown { ShowsWhole (repository_of store.old) notes.old }
+    ensures cells { CellsStay notes.old notes.new }
     ensures carried { Carries (entry_in staged) store.old store.new notes.new result }
 {
     // (as many sets as revisions)
@@ -51,8 +51,8 @@ pub(crate) fn carry_out<D: Disk>(
 
 /// The revision that is staged, in a box. Only want of memory (70) refuses it.
 pub(crate) fn rev_in(alloc: Global, staged: &Staged) -> Result<Box<Rev>, AllocError>
-    requires { IsSome (rev_from (entry_in staged.now) (tree_in staged.now)) }
-    ensures { IfOk result (λ b. rev_from (entry_in staged.now) (tree_in staged.now) ≡ Some b.value) }
+    requires { IsSome (staged_rev staged.now) }
+    ensures { IfOk result (λ b. staged_rev staged.now ≡ Some b.value) }
 {
     let Entry::Revised {
         number,
