@@ -7,12 +7,14 @@ use Rattle.fleet_disk.specs.declared.disk.Disk.{Ghosts}
 use Rattle.fleet_disk.specs.Rules.{LeavesOnly}
 use Rattle.gate_log.specs.Log.{size_of}
 use Rattle.node_base.specs.Props.{PropMap}
+use Rattle.node_base.specs.Tree.{PathMap}
 use Rattle.node_base.specs.declared.refusal.Refusal.TheVariants as refusal
 use Rattle.dump_load.specs.declared.change.Change.{Change}
 use Rattle.dump_load.specs.Trees.{Makes}
 use Rattle.repo_core.specs.Repository.{Repository, trees_of, tree_at, head_of}
 use Rattle.repo_core.specs.declared.entry.Entry.{Entry}
 use Rattle.repo_store.specs.Journal.{spelling}
+use Rattle.repo_store.specs.Journal as journal
 use Rattle.sync_core.specs.Mirror.{Call, entry_of}
 use Rattle.sync_core.specs.declared.fault.SyncFault.{SyncFault}
 use Rattle.sync_core.specs.declared.fault.SyncFault.TheVariants as fault
@@ -29,6 +31,7 @@ use Rattle.sync_job.specs.Asked.{Asked}
 use Rattle.sync_job.specs.Devices.{WasAsked}
 use Rattle.sync_job.specs.Mirrors.{MirrorNow, Keeps, Steps}
 use Rattle.sync_job.specs.Questions.{Exchange, Identity, Latest, Fetch, FetchProps}
+use Rattle.sync_job.specs.Worlds.{AreFirst}
 
 -- so a mirror stands in a store: its repository, the holder, a call's entry in doubt where the device failed, and all that a stop
 -- leaves keeps it
@@ -53,6 +56,10 @@ pub record IsMasterAt (r : Repository) (o : Origin) : Type 0 where
   pub maps : maps_now o ≡ map (λ x. x.props) r.revisions
   pub some : 0 < length o.maps
 
+-- of a master that is this repository now that is so
+abbrev pub IsTrueIn : Repository → (Origin → Type 0) → Type 0
+IsTrueIn r Answers = (o : Origin) → IsMasterAt r o → Answers o
+
 -- what a call does to a mirror in a store
 pub record Moved {D : Type 0} {G : Ghosts D} (old new : RepoStore D G) (h_old h_new : Option ℕ) (call : Call) (result : Result Given SyncFault) (m : MirrorNow) : Type 0 where
   pub now : MirrorNow
@@ -67,9 +74,24 @@ store_of a = a.store
 abbrev pub holder_of : {D : Type 0} {G : Ghosts D} → AloneMirror D G → Option ℕ
 holder_of a = a.holder
 
+-- these trees are those of its first revisions
+abbrev pub BeginsWith : {D : Type 0} {G : Ghosts D} → AloneMirror D G → List PathMap → Type 0
+BeginsWith a trees = AreFirst trees (trees_of (revisions_of (store_of a)))
+
+-- each mirror that may stand there moves by the call
+abbrev pub MovesAlone : {D : Type 0} {G : Ghosts D} → AloneMirror D G → AloneMirror D G → Call → Result Given SyncFault → Type 0
+MovesAlone old new call result =
+    (m : MirrorNow) → StandsAt (store_of old) (holder_of old) m → Moved (store_of old) (store_of new) (holder_of old) (holder_of new) call result m
+
 -- a mirror as a repository begins it: nobody has its lock, and no entry is in doubt
 abbrev pub begun : Repository → MirrorNow
 begun r = record { repository = r; holder = None; doubt = None }
+
+-- in a store that works, and of which a stop leaves what keeps its repository, a mirror stands as the repository begins it
+abbrev pub StandsAsOpened : {D : Type 0} (G : Ghosts D) → RepoStore D G → Type 0
+StandsAsOpened G store =
+    ¬ HasFailed store → (G.honest (disk_of store) → (image : Image) → G.may_leave (disk_of store) image → journal.Keeps (repository_of store) image)
+    → StandsAt store None (begun (repository_of store))
 
 -- the journal has no room for the call's entry
 abbrev pub IsFull : {D : Type 0} {G : Ghosts D} → RepoStore D G → Call → Type 0

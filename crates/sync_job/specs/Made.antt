@@ -1,5 +1,5 @@
 -- Trees that come with the sets that make them.
-use Rattle.std.specs.Prelude.{◌≤◌, ℕ, List, length, take, Option, IfSome}
+use Rattle.std.specs.Prelude.{◌≡◌, ◌≤◌, ◌++◌, ◌∷◌, [], ℕ, List, length, take, Option, IfSome, Result, IfOk}
 use Rattle.node_base.specs.Tree.{PathMap}
 use Rattle.dump_load.specs.declared.change.Change.{Change}
 use Rattle.dump_load.specs.Trees.{Makes}
@@ -7,6 +7,7 @@ use Rattle.repo_core.specs.declared.entry.Entry.{Entry}
 use Rattle.repo_core.specs.declared.entry.Entry.TheVariants.{Revised, Mapped}
 use Rattle.sync_core.specs.declared.answer.Answer.{Answer}
 use Rattle.sync_core.specs.declared.answer.Answer.TheVariants as answer
+use Rattle.sync_core.specs.declared.fault.SyncFault.{SyncFault}
 use Rattle.sync_core.specs.Mirror.{Call, Commit}
 use Rattle.sync_core.specs.Deeds.{Deed, Calls, AsksIdentity, AsksLatest, Fetches, FetchesProps, Ends}
 
@@ -65,3 +66,8 @@ StillBegins begins_with before after = (trees : List PathMap) → begins_with be
 -- and behind some that are taken it begins with these
 abbrev pub BeginsOn : {N : Type 0} → (N → List PathMap → Type 0) → N → N → List PathMap → List PathMap → Type 0
 BeginsOn begins_with before after old new = begins_with before old → begins_with after new
+
+-- the tree of the next revision goes behind those that a port begins with
+abbrev pub GivesNext : {N : Type 0} → (N → List PathMap → Type 0) → N → N → ℕ → Result PathMap SyncFault → Type 0
+GivesNext begins_with before after n result =
+    (trees : List PathMap) → begins_with before trees → n ≡ length trees → IfOk result (λ t. begins_with after (trees ++ t ∷ []))

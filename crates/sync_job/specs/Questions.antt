@@ -4,7 +4,9 @@ use Rattle.std.specs.List.{AllZip}
 use Rattle.node_base.specs.Props.{PropMap}
 use Rattle.node_base.specs.Tree.{PathMap}
 use Rattle.sync_core.specs.declared.fault.SyncFault.TheVariants as fault
-use Rattle.sync_core.specs.Copies.{Outcome}
+use Rattle.sync_core.specs.declared.answer.Answer.{Answer}
+use Rattle.sync_core.specs.declared.answer.Answer.TheVariants as answer
+use Rattle.sync_core.specs.Copies.{Outcome, outcome_of}
 use Rattle.sync_core.specs.Copies as told
 use Rattle.sync_core.specs.Deeds.{Deed, Calls, AsksIdentity, AsksLatest, Fetches, FetchesProps}
 use Rattle.sync_job.specs.declared.master.Fetched.{Fetched}
@@ -42,6 +44,10 @@ outcome_for (Fetch n trees (Ok r)) = told.Revision r.set r.props
 outcome_for (Fetch n trees (Err f)) = told.Failed (fault_text f)
 outcome_for (FetchProps n (Ok p)) = told.Map p
 outcome_for (FetchProps n (Err f)) = told.Failed (fault_text f)
+
+-- a job hears of an answer what it tells, or want of memory
+abbrev pub IsToldOf : Exchange → Answer → Type 0
+IsToldOf x a = (outcome_of a ≡ outcome_for x) ⊎ (a ≡ answer.Refused fault.OutOfMemory)
 
 -- a question to the master that was said, with its answer
 pub record SaidQuestion : Type 0 where

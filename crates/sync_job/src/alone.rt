@@ -1,22 +1,19 @@
 //! A mirror held alone.
-ghost use Rattle.std.specs.Prelude.{◌≡◌, ◌↔◌, ◌∷◌, [], List, None, Err, IfOk};
+ghost use Rattle.std.specs.Prelude.{◌≡◌, ◌↔◌, ◌∷◌, [], None, Err, IfOk};
 ghost use Rattle.node_base.specs.declared.refusal.Refusal.TheVariants as refusal;
 ghost use Rattle.sync_core.specs.declared.fault.SyncFault.TheVariants as fault;
-ghost use Rattle.fleet_disk.specs.Image.{Image};
-ghost use Rattle.node_base.specs.Tree.{PathMap};
 ghost use Rattle.repo_core.specs.Refusals.{by_repository};
 ghost use Rattle.repo_core.specs.Repository.{trees_of};
 ghost use Rattle.repo_store.specs.Changes.{IsNumbered, Stages};
-ghost use Rattle.repo_store.specs.Journal.{Keeps};
-ghost use Rattle.repo_store.specs.Words.{disk_of, repository_of, revisions_of, HasFailed};
+ghost use Rattle.repo_store.specs.Words.{disk_of, revisions_of};
 ghost use Rattle.sync_core.specs.Calls.{call_of};
 ghost use Rattle.sync_core.specs.Mirror.{mirror_with};
 ghost use Rattle.sync_core.specs.Plans.{IsToWrite};
-ghost use Rattle.sync_job.specs.Alone.{StandsAt, Moved, IsFull, begun, holder_of, store_of};
+ghost use Rattle.sync_job.specs.Alone.{StandsAt, IsFull, holder_of, store_of, BeginsWith, MovesAlone, StandsAsOpened};
 ghost use Rattle.sync_job.specs.Asked.{asked_as};
 ghost use Rattle.sync_job.specs.Devices.{WasAsked};
-ghost use Rattle.sync_job.specs.Made.{ComesWith, IsTreeOf};
-ghost use Rattle.sync_job.specs.Mirrors.{MirrorNow, IsFit};
+ghost use Rattle.sync_job.specs.Made.{ComesWith, IsTreeOf, StillBegins};
+ghost use Rattle.sync_job.specs.Mirrors.{IsFit};
 ghost use Rattle.sync_job.specs.Worlds.{AreFirst};
 
 use crate::faults::fault_of;
@@ -42,9 +39,7 @@ impl<D: Disk + Drop> AloneMirror<D> {
     /// a stop leaves what keeps its repository, the mirror stands so: an opened one is such a store.
     pub fn new(store: RepoStore<D>) -> AloneMirror<D>
         ensures store { (store_of result ≡ store) × (holder_of result ≡ None) }
-        ensures stands { ¬ HasFailed store → (D.honest (disk_of store) → (image : Image)
-            → D.may_leave (disk_of store) image → Keeps (repository_of store) image)
-            → StandsAt store None (begun (repository_of store)) }
+        ensures stands { StandsAsOpened D.Disk store }
     {
         AloneMirror {
             store,
@@ -84,16 +79,13 @@ impl<D: Disk + Drop> AloneMirror<D> {
     ) -> Result<Reply, SyncFault>
         requires planned { IsToWrite (mirror_with (revisions_of self.old.store) self.old.holder) 0
             (call_of call.now) entry }
-        requires made { ComesWith (λ trees. AreFirst trees (trees_of (revisions_of self.old.store)))
-            (call_of call.now) tree }
+        requires made { ComesWith (BeginsWith self.old) (call_of call.now) tree }
         ensures fits { IfOk result (IsFit (call_of call.now)) }
         ensures honest { D.honest (disk_of self.old.store) ↔ D.honest (disk_of self.new.store) }
-        ensures moved { (m : MirrorNow) → StandsAt self.old.store self.old.holder m
-            → Moved self.old.store self.new.store self.old.holder self.new.holder (call_of call.now) result m }
+        ensures moved { MovesAlone self.old self.new (call_of call.now) result }
         ensures asked { WasAsked self.new.store self.old.store (asked_as (call_of call.now) result ∷ []) }
         ensures full { result ≡ Err (fault.Other refusal.LogFull) → IsFull self.old.store (call_of call.now) }
-        ensures first { (trees : List PathMap) → AreFirst trees (trees_of (revisions_of self.old.store))
-            → AreFirst trees (trees_of (revisions_of self.new.store)) }
+        ensures first { StillBegins BeginsWith self.old self.new }
     {
         let staged = match stage(alloc, &mut self.store, entry, tree) {
             Ok(staged) => staged,

@@ -3,9 +3,8 @@ ghost use Rattle.std.specs.Prelude.{◌≡◌, List, None, Some, IfOk};
 ghost use Rattle.node_base.specs.Tree.{PathMap};
 ghost use Rattle.uuid.specs.Text.{hyphenated_text, lower};
 ghost use Rattle.repo_store.specs.Words.{repository_of};
-ghost use Rattle.sync_core.specs.World.{Origin, map_at, moment_of};
-ghost use Rattle.sync_core.specs.World.{Makes as MakesTree};
-ghost use Rattle.sync_job.specs.Alone.{lent_in, IsAnsweredBy, IsMasterAt};
+ghost use Rattle.sync_job.specs.Alone.{lent_in, IsAnsweredBy, IsMasterAt, IsTrueIn};
+ghost use Rattle.sync_job.specs.Masters.{GivesIdentity, GivesRevision, GivesProps};
 ghost use Rattle.sync_job.specs.Questions.{Identity, Fetch, FetchProps};
 
 use crate::master::{Fetched, MasterFault, MasterPort};
@@ -72,7 +71,7 @@ pub(crate) fn identity_of<D: Disk>(
     alloc: Global,
     store: &RepoStore<D>,
 ) -> Result<PropValue, MasterFault>
-    ensures value { (o : Origin) → IsMasterAt (repository_of store.now) o → IfOk result (λ v. v ≡ o.identity) }
+    ensures value { IsTrueIn (repository_of store.now) (GivesIdentity result) }
     ensures answered { IsAnsweredBy (repository_of store.now) (Identity result) }
 {
     match identity_text(alloc, store.repo().identity()) {
@@ -86,8 +85,7 @@ pub(crate) fn revision_of<D: Disk>(
     store: &RepoStore<D>,
     number: RevNo,
 ) -> Result<Fetched, MasterFault>
-    ensures revision { (o : Origin) → IsMasterAt (repository_of store.now) o → IfOk result
-        (λ r. MakesTree o number r.set × (map_at o (moment_of o) number ≡ Some r.props)) }
+    ensures revision { IsTrueIn (repository_of store.now) (GivesRevision number result) }
     ensures treeless { IfOk result (λ r. r.tree ≡ None) }
     ensures answered { (trees : List PathMap) → IsAnsweredBy (repository_of store.now) (Fetch number trees result) }
 {
@@ -102,8 +100,7 @@ pub(crate) fn revision_of<D: Disk>(
 }
 
 pub(crate) fn props_of<D: Disk>(store: &RepoStore<D>, number: RevNo) -> Result<Props, MasterFault>
-    ensures value { (o : Origin) → IsMasterAt (repository_of store.now) o → IfOk result
-        (λ p. map_at o (moment_of o) number ≡ Some p) }
+    ensures value { IsTrueIn (repository_of store.now) (GivesProps number result) }
     ensures answered { IsAnsweredBy (repository_of store.now) (FetchProps number result) }
 {
     match store.repo().props(number) {

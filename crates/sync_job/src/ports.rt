@@ -3,27 +3,26 @@ ghost use Rattle.std.specs.Prelude.{◌≡◌, ◌≢◌, ◌≤◌, ◌+◌, �
 ghost use Rattle.std.specs.Prelude.{OnOk, OnErr, IsErr, None, Some, ◌-◌, length, map};
 ghost use Rattle.sync_core.specs.declared.answer.Answer.TheVariants as answer_is;
 ghost use Rattle.sync_core.specs.declared.fault.SyncFault.TheVariants.{OutOfMemory as NoMemory};
-ghost use Rattle.sync_job.specs.Fronts.{WentAt, accepted_by, counted_by};
 ghost use Rattle.sync_core.specs.Calls.{call_of};
 ghost use Rattle.sync_core.specs.Deeds.{Deed, Calls, AsksIdentity, AsksLatest, Fetches, FetchesProps, Ends, deed_of};
 ghost use Rattle.sync_core.specs.Measures.{CanBe};
 ghost use Rattle.sync_core.specs.Mirror.{ReleaseLock};
 ghost use Rattle.sync_core.specs.Copies.{outcome_of, Failed};
+ghost use Rattle.sync_job.specs.Added.{Adds};
 ghost use Rattle.sync_job.specs.Seen.{call_seen};
-ghost use Rattle.sync_job.specs.declared.report.Told.{Told as IsTold};
 ghost use Rattle.sync_job.specs.declared.report.Told.TheVariants.{Committed, Copied};
 ghost use Rattle.node_base.specs.Tree.{PathMap};
 ghost use Rattle.dump_load.specs.Trees.{Makes};
-ghost use Rattle.sync_core.specs.World.{Origin, map_at, moment_of};
-ghost use Rattle.sync_core.specs.World.{Makes as MakesTree};
-ghost use Rattle.sync_job.specs.Masters.{fault_text};
-ghost use Rattle.sync_job.specs.Questions.{KeepsAnswers, Identity, Latest, Fetch, FetchProps, outcome_for};
-ghost use Rattle.sync_job.specs.Made.{ComesWith, IsKeptFor, IsMadeBy, KeepsMade, StillBegins, BeginsOn, MakesOf};
+ghost use Rattle.sync_core.specs.World.{Origin};
+ghost use Rattle.sync_job.specs.Masters.{fault_text, GivesIdentity, GivesNewest, GivesRevision, GivesProps};
+ghost use Rattle.sync_job.specs.Questions.{Identity, Latest, Fetch, FetchProps, IsToldOf};
+ghost use Rattle.sync_job.specs.Made.{ComesWith, IsMadeBy, KeepsMade, MakesOf};
+ghost use Rattle.sync_job.specs.Ports.{HappensAt, HappensWithoutTrees, HasTreeFor, KeepsMirror, MirrorBeginsOn, MirrorStillBegins};
+ghost use Rattle.sync_job.specs.Ports.{MovesMirror, SaysCalls, SaysQuestions, Speaks, TakesFrom};
 ghost use Rattle.sync_job.specs.Rooms.{IsReady, KeepsRoom};
-ghost use Rattle.sync_job.specs.SaidLists.{said_in, room_in};
-ghost use Rattle.sync_job.specs.Said.{Acted, Fits, IsQuestion, Tells, told_of};
-ghost use Rattle.sync_job.specs.Telling.{IsOther, KeepsTelling};
-ghost use Rattle.sync_job.specs.Worlds.{IsAnswerAt, Happens, TakesTrees};
+ghost use Rattle.sync_job.specs.Said.{Fits, IsQuestion, Tells, told_of};
+ghost use Rattle.sync_job.specs.Telling.{IsOther};
+ghost use Rattle.sync_job.specs.Worlds.{IsAnswerAt};
 
 use crate::master::{Fetched, MasterFault, MasterPort};
 use crate::mirror::MirrorPort;
@@ -54,7 +53,8 @@ pub struct JobPorts<M: MasterPort + Drop, N: MirrorPort + Drop, R: Report + Drop
 }
 
 impl<M: MasterPort + Drop, N: MirrorPort + Drop, R: Report + Drop> JobPorts<M, N, R> {
-    ghost use Rattle.sync_job.specs.Words.{calls_of, master_of, mirror_of, report_of, tree_of, HasRoom};
+    ghost use Rattle.sync_job.specs.Words.{calls_of, master_of, mirror_of, report_of, tree_of, HasRoom, HasRoomFor};
+    ghost use Rattle.sync_job.specs.Words.{SaysNothing};
 
     /// The ports, through which nothing was said yet.
     pub fn new(alloc: Global, master: M, mirror: N, report: R) -> JobPorts<M, N, R>
@@ -100,22 +100,16 @@ impl<M: MasterPort + Drop, N: MirrorPort + Drop, R: Report + Drop> JobPorts<M, N
     ) -> Answer
         requires goes { deed_of action.now ≡ Ends → ⊥ }
         requires ready { IsReady (deed_of action.now) self.old }
-        requires made { IsKeptFor (N.begins_with (mirror_of self.old)) (deed_of action.now) (tree_of self.old) }
+        requires made { HasTreeFor N.MirrorPort self.old (deed_of action.now) }
         ensures room { KeepsRoom (deed_of action.now) result self.old self.new }
         ensures can { CanBe result }
-        ensures said { Acted (deed_of action.now) result (calls_of self.old) (calls_of self.new)
-            (R.heard (report_of self.old)) (R.heard (report_of self.new)) }
-        ensures mirror { WentAt N.stands N.clock N.left_since N.honest (mirror_of self.old) (mirror_of self.new)
-            (accepted_by (deed_of action.now) (outcome_of result))
-            (counted_by (deed_of action.now) (outcome_of result)) }
-        ensures asked { KeepsTelling N.asked (mirror_of self.old) (mirror_of self.new) (calls_of self.old)
-            (calls_of self.new) }
-        ensures answered { KeepsAnswers M.answered (master_of self.old) (master_of self.new) (calls_of self.old)
-            (calls_of self.new) }
-        ensures happens { Happens (M.is_at (master_of self.old)) (M.is_at (master_of self.new))
-            (N.stands (mirror_of self.old)) (N.stands (mirror_of self.new)) (N.seat (mirror_of self.old))
-            (N.seat (mirror_of self.new)) (deed_of action.now) result trees.old.items trees.new.items }
-        ensures first { BeginsOn N.begins_with (mirror_of self.old) (mirror_of self.new) trees.old.items trees.new.items }
+        ensures said { Speaks R.Report self.old self.new (deed_of action.now) result }
+        ensures mirror { MovesMirror N.MirrorPort self.old self.new (deed_of action.now) result }
+        ensures asked { SaysCalls N.MirrorPort self.old self.new }
+        ensures answered { SaysQuestions M.MasterPort self.old self.new }
+        ensures happens { HappensAt M.MasterPort N.MirrorPort self.old self.new trees.old.items trees.new.items
+            (deed_of action.now) result }
+        ensures first { MirrorBeginsOn N.MirrorPort self.old self.new trees.old.items trees.new.items }
         ensures kept { KeepsMade trees.new.items (deed_of action.now) result (tree_of self.new) }
     {
         match action {
@@ -134,19 +128,13 @@ impl<M: MasterPort + Drop, N: MirrorPort + Drop, R: Report + Drop> JobPorts<M, N
         requires made { ComesWith (N.begins_with (mirror_of self.old)) (call_of call.now) (tree_of self.old) }
         ensures room { KeepsRoom (Calls (call_of call.now)) result self.old self.new }
         ensures can { CanBe result }
-        ensures said { Acted (Calls (call_of call.now)) result (calls_of self.old) (calls_of self.new)
-            (R.heard (report_of self.old)) (R.heard (report_of self.new)) }
-        ensures mirror { WentAt N.stands N.clock N.left_since N.honest (mirror_of self.old) (mirror_of self.new)
-            (accepted_by (Calls (call_of call.now)) (outcome_of result))
-            (counted_by (Calls (call_of call.now)) (outcome_of result)) }
-        ensures asked { KeepsTelling N.asked (mirror_of self.old) (mirror_of self.new) (calls_of self.old)
-            (calls_of self.new) }
-        ensures answered { KeepsAnswers M.answered (master_of self.old) (master_of self.new) (calls_of self.old)
-            (calls_of self.new) }
-        ensures happens { (trees : List PathMap) → Happens (M.is_at (master_of self.old)) (M.is_at (master_of self.new))
-            (N.stands (mirror_of self.old)) (N.stands (mirror_of self.new)) (N.seat (mirror_of self.old))
-            (N.seat (mirror_of self.new)) (Calls (call_of call.now)) result trees trees }
-        ensures first { StillBegins N.begins_with (mirror_of self.old) (mirror_of self.new) }
+        ensures said { Speaks R.Report self.old self.new (Calls (call_of call.now)) result }
+        ensures mirror { MovesMirror N.MirrorPort self.old self.new (Calls (call_of call.now)) result }
+        ensures asked { SaysCalls N.MirrorPort self.old self.new }
+        ensures answered { SaysQuestions M.MasterPort self.old self.new }
+        ensures happens { HappensWithoutTrees M.MasterPort N.MirrorPort self.old self.new
+            (Calls (call_of call.now)) result }
+        ensures first { MirrorStillBegins N.MirrorPort self.old self.new }
     {
         let kept = match self.room_for(call) {
             Ok(kept) => kept,
@@ -181,8 +169,7 @@ impl<M: MasterPort + Drop, N: MirrorPort + Drop, R: Report + Drop> JobPorts<M, N
         requires ready { IsReady (Calls (call_of call.now)) self.old }
         ensures kept { IfOk result (λ k. call_seen k ≡ call_of call.now) }
         ensures room { OnOk result (HasRoom self.new) }
-        ensures more { OnOk result ((call_of call.now ≡ ReleaseLock)
-            ⊎ (length (said_in self.new.calls) + 4 ≤ room_in self.new.calls)) }
+        ensures more { OnOk result ((call_of call.now ≡ ReleaseLock) ⊎ HasRoomFor 4 self.new) }
         ensures tree { tree_of self.new ≡ tree_of self.old }
         ensures keeps { HasRoom self.old → HasRoom self.new }
         ensures made { OnErr result (call_of call.now ≢ ReleaseLock) }
@@ -200,11 +187,10 @@ impl<M: MasterPort + Drop, N: MirrorPort + Drop, R: Report + Drop> JobPorts<M, N
 
     // Tells of an accepted call.
     fn tell(&mut self, call: &MirrorCall<'_>)
-        requires { length (said_in self.old.calls) + 1 ≤ room_in self.old.calls }
-        ensures room { length (said_in self.old.calls) + 3 ≤ room_in self.old.calls → HasRoom self.new }
+        requires { HasRoomFor 1 self.old }
+        ensures room { HasRoomFor 3 self.old → HasRoom self.new }
         ensures calls { calls_of self.new ≡ calls_of self.old ++ map Tells (told_of (call_of call.now)) }
-        ensures told { (first : R) (told : List IsTold) → R.heard (report_of self.old) first told
-            → R.heard (report_of self.new) first (told ++ told_of (call_of call.now)) }
+        ensures told { Adds R.heard (report_of self.old) (report_of self.new) (told_of (call_of call.now)) }
         ensures mirror { mirror_of self.new ≡ mirror_of self.old }
         ensures master { master_of self.new ≡ master_of self.old }
     {
@@ -217,11 +203,10 @@ impl<M: MasterPort + Drop, N: MirrorPort + Drop, R: Report + Drop> JobPorts<M, N
     }
 
     fn tell_committed(&mut self, number: RevNo)
-        requires { length (said_in self.old.calls) + 1 ≤ room_in self.old.calls }
-        ensures room { length (said_in self.old.calls) + 3 ≤ room_in self.old.calls → HasRoom self.new }
+        requires { HasRoomFor 1 self.old }
+        ensures room { HasRoomFor 3 self.old → HasRoom self.new }
         ensures calls { calls_of self.new ≡ calls_of self.old ++ Tells (Committed number) ∷ [] }
-        ensures told { (first : R) (told : List IsTold) → R.heard (report_of self.old) first told
-            → R.heard (report_of self.new) first (told ++ Committed number ∷ []) }
+        ensures told { Adds R.heard (report_of self.old) (report_of self.new) (Committed number ∷ []) }
         ensures mirror { mirror_of self.new ≡ mirror_of self.old }
         ensures master { master_of self.new ≡ master_of self.old }
     {
@@ -231,11 +216,10 @@ impl<M: MasterPort + Drop, N: MirrorPort + Drop, R: Report + Drop> JobPorts<M, N
     }
 
     fn tell_copied(&mut self, number: RevNo)
-        requires { length (said_in self.old.calls) + 1 ≤ room_in self.old.calls }
-        ensures room { length (said_in self.old.calls) + 3 ≤ room_in self.old.calls → HasRoom self.new }
+        requires { HasRoomFor 1 self.old }
+        ensures room { HasRoomFor 3 self.old → HasRoom self.new }
         ensures calls { calls_of self.new ≡ calls_of self.old ++ Tells (Copied number) ∷ [] }
-        ensures told { (first : R) (told : List IsTold) → R.heard (report_of self.old) first told
-            → R.heard (report_of self.new) first (told ++ Copied number ∷ []) }
+        ensures told { Adds R.heard (report_of self.old) (report_of self.new) (Copied number ∷ []) }
         ensures mirror { mirror_of self.new ≡ mirror_of self.old }
         ensures master { master_of self.new ≡ master_of self.old }
     {
@@ -247,18 +231,12 @@ impl<M: MasterPort + Drop, N: MirrorPort + Drop, R: Report + Drop> JobPorts<M, N
     fn identity(&mut self, alloc: Global) -> Answer
         ensures room { KeepsRoom AsksIdentity result self.old self.new }
         ensures can { CanBe result }
-        ensures said { Acted AsksIdentity result (calls_of self.old) (calls_of self.new)
-            (R.heard (report_of self.old)) (R.heard (report_of self.new)) }
-        ensures mirror { WentAt N.stands N.clock N.left_since N.honest (mirror_of self.old) (mirror_of self.new)
-            (accepted_by AsksIdentity (outcome_of result)) (counted_by AsksIdentity (outcome_of result)) }
-        ensures asked { KeepsTelling N.asked (mirror_of self.old) (mirror_of self.new) (calls_of self.old)
-            (calls_of self.new) }
-        ensures answered { KeepsAnswers M.answered (master_of self.old) (master_of self.new) (calls_of self.old)
-            (calls_of self.new) }
-        ensures happens { (trees : List PathMap) → Happens (M.is_at (master_of self.old)) (M.is_at (master_of self.new))
-            (N.stands (mirror_of self.old)) (N.stands (mirror_of self.new)) (N.seat (mirror_of self.old))
-            (N.seat (mirror_of self.new)) AsksIdentity result trees trees }
-        ensures first { StillBegins N.begins_with (mirror_of self.old) (mirror_of self.new) }
+        ensures said { Speaks R.Report self.old self.new AsksIdentity result }
+        ensures mirror { MovesMirror N.MirrorPort self.old self.new AsksIdentity result }
+        ensures asked { SaysCalls N.MirrorPort self.old self.new }
+        ensures answered { SaysQuestions M.MasterPort self.old self.new }
+        ensures happens { HappensWithoutTrees M.MasterPort N.MirrorPort self.old self.new AsksIdentity result }
+        ensures first { MirrorStillBegins N.MirrorPort self.old self.new }
     {
         if self.calls.reserve(3).is_err() {
             return Answer::Refused(SyncFault::OutOfMemory);
@@ -272,18 +250,12 @@ impl<M: MasterPort + Drop, N: MirrorPort + Drop, R: Report + Drop> JobPorts<M, N
     fn latest(&mut self, alloc: Global) -> Answer
         ensures room { KeepsRoom AsksLatest result self.old self.new }
         ensures can { CanBe result }
-        ensures said { Acted AsksLatest result (calls_of self.old) (calls_of self.new) (R.heard (report_of self.old))
-            (R.heard (report_of self.new)) }
-        ensures mirror { WentAt N.stands N.clock N.left_since N.honest (mirror_of self.old) (mirror_of self.new)
-            (accepted_by AsksLatest (outcome_of result)) (counted_by AsksLatest (outcome_of result)) }
-        ensures asked { KeepsTelling N.asked (mirror_of self.old) (mirror_of self.new) (calls_of self.old)
-            (calls_of self.new) }
-        ensures answered { KeepsAnswers M.answered (master_of self.old) (master_of self.new) (calls_of self.old)
-            (calls_of self.new) }
-        ensures happens { (trees : List PathMap) → Happens (M.is_at (master_of self.old)) (M.is_at (master_of self.new))
-            (N.stands (mirror_of self.old)) (N.stands (mirror_of self.new)) (N.seat (mirror_of self.old))
-            (N.seat (mirror_of self.new)) AsksLatest result trees trees }
-        ensures first { StillBegins N.begins_with (mirror_of self.old) (mirror_of self.new) }
+        ensures said { Speaks R.Report self.old self.new AsksLatest result }
+        ensures mirror { MovesMirror N.MirrorPort self.old self.new AsksLatest result }
+        ensures asked { SaysCalls N.MirrorPort self.old self.new }
+        ensures answered { SaysQuestions M.MasterPort self.old self.new }
+        ensures happens { HappensWithoutTrees M.MasterPort N.MirrorPort self.old self.new AsksLatest result }
+        ensures first { MirrorStillBegins N.MirrorPort self.old self.new }
     {
         if self.calls.reserve(3).is_err() {
             return Answer::Refused(SyncFault::OutOfMemory);
@@ -297,18 +269,13 @@ impl<M: MasterPort + Drop, N: MirrorPort + Drop, R: Report + Drop> JobPorts<M, N
     fn fetch(&mut self, alloc: Global, number: RevNo, trees: &mut Vec<Tree>) -> Answer
         ensures room { KeepsRoom (Fetches number) result self.old self.new }
         ensures can { CanBe result }
-        ensures said { Acted (Fetches number) result (calls_of self.old) (calls_of self.new)
-            (R.heard (report_of self.old)) (R.heard (report_of self.new)) }
-        ensures mirror { WentAt N.stands N.clock N.left_since N.honest (mirror_of self.old) (mirror_of self.new)
-            (accepted_by (Fetches number) (outcome_of result)) (counted_by (Fetches number) (outcome_of result)) }
-        ensures asked { KeepsTelling N.asked (mirror_of self.old) (mirror_of self.new) (calls_of self.old)
-            (calls_of self.new) }
-        ensures answered { KeepsAnswers M.answered (master_of self.old) (master_of self.new) (calls_of self.old)
-            (calls_of self.new) }
-        ensures happens { Happens (M.is_at (master_of self.old)) (M.is_at (master_of self.new))
-            (N.stands (mirror_of self.old)) (N.stands (mirror_of self.new)) (N.seat (mirror_of self.old))
-            (N.seat (mirror_of self.new)) (Fetches number) result trees.old.items trees.new.items }
-        ensures first { BeginsOn N.begins_with (mirror_of self.old) (mirror_of self.new) trees.old.items trees.new.items }
+        ensures said { Speaks R.Report self.old self.new (Fetches number) result }
+        ensures mirror { MovesMirror N.MirrorPort self.old self.new (Fetches number) result }
+        ensures asked { SaysCalls N.MirrorPort self.old self.new }
+        ensures answered { SaysQuestions M.MasterPort self.old self.new }
+        ensures happens { HappensAt M.MasterPort N.MirrorPort self.old self.new trees.old.items trees.new.items
+            (Fetches number) result }
+        ensures first { MirrorBeginsOn N.MirrorPort self.old self.new trees.old.items trees.new.items }
         ensures kept { IsMadeBy trees.new.items number result (tree_of self.new) }
     {
         if let Some(refusal) = self.fill(number, trees) {
@@ -332,19 +299,12 @@ impl<M: MasterPort + Drop, N: MirrorPort + Drop, R: Report + Drop> JobPorts<M, N
     fn fetch_props(&mut self, alloc: Global, number: RevNo) -> Answer
         ensures room { KeepsRoom (FetchesProps number) result self.old self.new }
         ensures can { CanBe result }
-        ensures said { Acted (FetchesProps number) result (calls_of self.old) (calls_of self.new)
-            (R.heard (report_of self.old)) (R.heard (report_of self.new)) }
-        ensures mirror { WentAt N.stands N.clock N.left_since N.honest (mirror_of self.old) (mirror_of self.new)
-            (accepted_by (FetchesProps number) (outcome_of result))
-            (counted_by (FetchesProps number) (outcome_of result)) }
-        ensures asked { KeepsTelling N.asked (mirror_of self.old) (mirror_of self.new) (calls_of self.old)
-            (calls_of self.new) }
-        ensures answered { KeepsAnswers M.answered (master_of self.old) (master_of self.new) (calls_of self.old)
-            (calls_of self.new) }
-        ensures happens { (trees : List PathMap) → Happens (M.is_at (master_of self.old)) (M.is_at (master_of self.new))
-            (N.stands (mirror_of self.old)) (N.stands (mirror_of self.new)) (N.seat (mirror_of self.old))
-            (N.seat (mirror_of self.new)) (FetchesProps number) result trees trees }
-        ensures first { StillBegins N.begins_with (mirror_of self.old) (mirror_of self.new) }
+        ensures said { Speaks R.Report self.old self.new (FetchesProps number) result }
+        ensures mirror { MovesMirror N.MirrorPort self.old self.new (FetchesProps number) result }
+        ensures asked { SaysCalls N.MirrorPort self.old self.new }
+        ensures answered { SaysQuestions M.MasterPort self.old self.new }
+        ensures happens { HappensWithoutTrees M.MasterPort N.MirrorPort self.old self.new (FetchesProps number) result }
+        ensures first { MirrorStillBegins N.MirrorPort self.old self.new }
     {
         if self.calls.reserve(3).is_err() {
             return Answer::Refused(SyncFault::OutOfMemory);
@@ -359,21 +319,15 @@ impl<M: MasterPort + Drop, N: MirrorPort + Drop, R: Report + Drop> JobPorts<M, N
     fn fill(&mut self, number: RevNo, trees: &mut Vec<Tree>) -> Option<Answer>
         ensures room { HasRoom self.old → HasRoom self.new }
         ensures refusal { IfSome result (λ a. CanBe a × (a ≢ answer_is.Done)) }
-        ensures none { result ≡ None → (calls_of self.new ≡ calls_of self.old) ×
-            (report_of self.new ≡ report_of self.old) }
-        ensures some { IfSome result
-            (λ a. Acted (Fetches number) a (calls_of self.old) (calls_of self.new) (R.heard (report_of self.old))
-            (R.heard (report_of self.new))) }
-        ensures mirror { WentAt N.stands N.clock N.left_since N.honest (mirror_of self.old) (mirror_of self.new) [] [] }
+        ensures none { result ≡ None → SaysNothing self.old self.new }
+        ensures some { IfSome result (Speaks R.Report self.old self.new (Fetches number)) }
+        ensures mirror { KeepsMirror N.MirrorPort self.old self.new }
         ensures master { master_of self.new ≡ master_of self.old }
-        ensures asked { KeepsTelling N.asked (mirror_of self.old) (mirror_of self.new) (calls_of self.old)
-            (calls_of self.new) }
-        ensures answered { KeepsAnswers M.answered (master_of self.old) (master_of self.new) (calls_of self.old)
-            (calls_of self.new) }
-        ensures trees { TakesTrees (N.stands (mirror_of self.old)) (N.stands (mirror_of self.new))
-            (N.seat (mirror_of self.old)) (N.seat (mirror_of self.new)) trees.old.items trees.new.items result }
+        ensures asked { SaysCalls N.MirrorPort self.old self.new }
+        ensures answered { SaysQuestions M.MasterPort self.old self.new }
+        ensures trees { TakesFrom N.MirrorPort self.old self.new trees.old.items trees.new.items result }
         ensures many { result ≡ None → number ≤ length trees.new.items }
-        ensures first { BeginsOn N.begins_with (mirror_of self.old) (mirror_of self.new) trees.old.items trees.new.items }
+        ensures first { MirrorBeginsOn N.MirrorPort self.old self.new trees.old.items trees.new.items }
     {
         for i in trees.len()..number.index() {
             let refusal = self.take_tree(number, RevNo::new(i as u16), trees);
@@ -389,21 +343,15 @@ impl<M: MasterPort + Drop, N: MirrorPort + Drop, R: Report + Drop> JobPorts<M, N
         requires next { number ≡ length trees.old.items }
         ensures room { HasRoom self.old → HasRoom self.new }
         ensures refusal { IfSome result (λ a. CanBe a × (a ≢ answer_is.Done)) }
-        ensures none { result ≡ None → (calls_of self.new ≡ calls_of self.old) ×
-            (report_of self.new ≡ report_of self.old) }
-        ensures some { IfSome result
-            (λ a. Acted (Fetches of) a (calls_of self.old) (calls_of self.new) (R.heard (report_of self.old))
-            (R.heard (report_of self.new))) }
-        ensures mirror { WentAt N.stands N.clock N.left_since N.honest (mirror_of self.old) (mirror_of self.new) [] [] }
+        ensures none { result ≡ None → SaysNothing self.old self.new }
+        ensures some { IfSome result (Speaks R.Report self.old self.new (Fetches of)) }
+        ensures mirror { KeepsMirror N.MirrorPort self.old self.new }
         ensures master { master_of self.new ≡ master_of self.old }
-        ensures asked { KeepsTelling N.asked (mirror_of self.old) (mirror_of self.new) (calls_of self.old)
-            (calls_of self.new) }
-        ensures answered { KeepsAnswers M.answered (master_of self.old) (master_of self.new) (calls_of self.old)
-            (calls_of self.new) }
-        ensures trees { TakesTrees (N.stands (mirror_of self.old)) (N.stands (mirror_of self.new))
-            (N.seat (mirror_of self.old)) (N.seat (mirror_of self.new)) trees.old.items trees.new.items result }
+        ensures asked { SaysCalls N.MirrorPort self.old self.new }
+        ensures answered { SaysQuestions M.MasterPort self.old self.new }
+        ensures trees { TakesFrom N.MirrorPort self.old self.new trees.old.items trees.new.items result }
         ensures one { result ≡ None → length trees.new.items ≡ length trees.old.items + 1 }
-        ensures first { BeginsOn N.begins_with (mirror_of self.old) (mirror_of self.new) trees.old.items trees.new.items }
+        ensures first { MirrorBeginsOn N.MirrorPort self.old self.new trees.old.items trees.new.items }
     {
         let _ = of;
         if self.calls.reserve(3).is_err() || trees.reserve(1).is_err() {
@@ -439,10 +387,10 @@ fn failed(alloc: Global, fault: MasterFault) -> Answer
 
 fn identity_answer(alloc: Global, answer: Result<PropValue, MasterFault>) -> Answer
     ensures can { CanBe result }
-    ensures told { (outcome_of result ≡ outcome_for (Identity answer)) ⊎ (result ≡ answer_is.Refused NoMemory) }
+    ensures told { IsToldOf (Identity answer) result }
     ensures other { IsOther (outcome_of result) }
     ensures fits { Fits AsksIdentity result }
-    ensures at { (o : Origin) → IfOk answer (λ v. v ≡ o.identity) → IsAnswerAt o AsksIdentity result }
+    ensures at { (o : Origin) → GivesIdentity answer o → IsAnswerAt o AsksIdentity result }
 {
     match answer {
         Ok(uuid) => Answer::Identity(uuid),
@@ -452,10 +400,10 @@ fn identity_answer(alloc: Global, answer: Result<PropValue, MasterFault>) -> Ans
 
 fn latest_answer(alloc: Global, answer: Result<RevNo, MasterFault>) -> Answer
     ensures can { CanBe result }
-    ensures told { (outcome_of result ≡ outcome_for (Latest answer)) ⊎ (result ≡ answer_is.Refused NoMemory) }
+    ensures told { IsToldOf (Latest answer) result }
     ensures other { IsOther (outcome_of result) }
     ensures fits { Fits AsksLatest result }
-    ensures at { (o : Origin) → IfOk answer (λ n. n ≡ length o.trees - 1) → IsAnswerAt o AsksLatest result }
+    ensures at { (o : Origin) → GivesNewest answer o → IsAnswerAt o AsksLatest result }
 {
     match answer {
         Ok(number) => {
@@ -473,13 +421,10 @@ fn revision_answer(
     answer: Result<Fetched, MasterFault>,
 ) -> (Answer, Option<Tree>)
     ensures can { CanBe result.0 }
-    ensures told { (trees : List PathMap) → (outcome_of result.0 ≡ outcome_for (Fetch number trees answer))
-        ⊎ (result.0 ≡ answer_is.Refused NoMemory) }
+    ensures told { (trees : List PathMap) → IsToldOf (Fetch number trees answer) result.0 }
     ensures other { IsOther (outcome_of result.0) }
     ensures fits { Fits (Fetches number) result.0 }
-    ensures at { (o : Origin)
-        → IfOk answer (λ r. MakesTree o number r.set × (map_at o (moment_of o) number ≡ Some r.props))
-        → IsAnswerAt o (Fetches number) result.0 }
+    ensures at { (o : Origin) → GivesRevision number answer o → IsAnswerAt o (Fetches number) result.0 }
     ensures tree { (trees : List PathMap) → IfOk answer (λ r. IfSome r.tree (Makes trees r.set))
         → MakesOf trees result.0 result.1 }
 {
@@ -492,11 +437,10 @@ fn revision_answer(
 
 fn map_answer(alloc: Global, number: RevNo, answer: Result<Props, MasterFault>) -> Answer
     ensures can { CanBe result }
-    ensures told { (outcome_of result ≡ outcome_for (FetchProps number answer)) ⊎ (result ≡ answer_is.Refused NoMemory) }
+    ensures told { IsToldOf (FetchProps number answer) result }
     ensures other { IsOther (outcome_of result) }
     ensures fits { Fits (FetchesProps number) result }
-    ensures at { (o : Origin) → IfOk answer (λ p. map_at o (moment_of o) number ≡ Some p)
-        → IsAnswerAt o (FetchesProps number) result }
+    ensures at { (o : Origin) → GivesProps number answer o → IsAnswerAt o (FetchesProps number) result }
 {
     let _ = number;
     match answer {

@@ -2,20 +2,15 @@
 ghost use Rattle.std.specs.Prelude.{◌≡◌, ◌≢◌, ◌<◌, None, Some, IfSome};
 ghost use Rattle.sync_core.specs.Deeds.{Ends};
 ghost use Rattle.sync_core.specs.Measures.{CanBe, left};
-ghost use Rattle.sync_core.specs.States.{deed_in, ending_of, Follows};
-ghost use Rattle.sync_job.specs.Said.{Acted};
-ghost use Rattle.sync_job.specs.Fronts.{WentAt, Moving, accepted_by, counted_by};
-ghost use Rattle.sync_core.specs.Copies.{outcome_of};
+ghost use Rattle.sync_core.specs.States.{deed_in, ending_of};
 ghost use Rattle.sync_job.specs.Words.{calls_of, master_of, mirror_of, report_of, tree_of};
-ghost use Rattle.sync_job.specs.Worlds.{Happens, IsEvents};
-ghost use Rattle.sync_core.specs.Jobs.{Order, begun};
-ghost use Rattle.sync_job.specs.Questions.{KeepsAnswers};
 ghost use Rattle.sync_job.specs.Left.{LeavesPorts};
-ghost use Rattle.sync_job.specs.Made.{BeginsOn, IsKeptFor, KeepsMade};
+ghost use Rattle.sync_job.specs.Made.{KeepsMade};
+ghost use Rattle.sync_job.specs.Ports.{HappensAt, HasTreeFor, MirrorBeginsOn, MovesAsSaid, MovesMirror, RunsCopy};
+ghost use Rattle.sync_job.specs.Ports.{RunsInit, RunsInWorld, RunsJob, RunsSync, SaysCalls, SaysQuestions, Speaks};
+ghost use Rattle.sync_job.specs.Ports.{StopsInWorld};
 ghost use Rattle.sync_job.specs.Rooms.{IsReady, IsUnlocked, KeepsRoom};
-ghost use Rattle.sync_job.specs.Stops.{StopsAsMirror};
-ghost use Rattle.sync_job.specs.Telling.{KeepsTelling};
-ghost use Rattle.sync_job.specs.Runs.{Ran, answer_to, IsSyncRun, IsInitRun, IsCopyRun};
+ghost use Rattle.sync_job.specs.Runs.{answer_to};
 
 use crate::master::MasterPort;
 use crate::mirror::MirrorPort;
@@ -34,8 +29,7 @@ pub fn run_sync<M: MasterPort + Drop, N: MirrorPort + Drop, R: Report + Drop>(
     token: Token,
     steal: bool,
 ) -> Result<(), SyncFault>
-    ensures run { IsSyncRun token steal (calls_of ports.old) (calls_of ports.new) (R.heard (report_of ports.old))
-        (R.heard (report_of ports.new)) result }
+    ensures run { RunsSync R.Report ports.old ports.new token steal result }
     ensures left { LeavesPorts M.MasterPort N.MirrorPort ports.old ports.new }
 {
     jobs_follow();
@@ -49,8 +43,7 @@ pub fn run_init<M: MasterPort + Drop, N: MirrorPort + Drop, R: Report + Drop>(
     ports: &mut JobPorts<M, N, R>,
     url: PropValue,
 ) -> Result<(), SyncFault>
-    ensures run { IsInitRun url (calls_of ports.old) (calls_of ports.new) (R.heard (report_of ports.old))
-        (R.heard (report_of ports.new)) result }
+    ensures run { RunsInit R.Report ports.old ports.new url result }
     ensures left { LeavesPorts M.MasterPort N.MirrorPort ports.old ports.new }
 {
     jobs_follow();
@@ -66,8 +59,7 @@ pub fn run_copy_revprops<M: MasterPort + Drop, N: MirrorPort + Drop, R: Report +
     low: RevNo,
     high: RevNo,
 ) -> Result<(), SyncFault>
-    ensures run { IsCopyRun token low high (calls_of ports.old) (calls_of ports.new) (R.heard (report_of ports.old))
-        (R.heard (report_of ports.new)) result }
+    ensures run { RunsCopy R.Report ports.old ports.new token low high result }
     ensures left { LeavesPorts M.MasterPort N.MirrorPort ports.old ports.new }
 {
     jobs_follow();
@@ -93,21 +85,12 @@ fn run_job<M: MasterPort + Drop, N: MirrorPort + Drop, R: Report + Drop>(
 ) -> Ending
     requires near { left state < 18446744073709551615 }
     requires first { IsUnlocked state }
-    ensures ran { Ran state (calls_of ports.old) (calls_of ports.new) (R.heard (report_of ports.old))
-        (R.heard (report_of ports.new)) result }
-    ensures mirror { Moving (calls_of ports.old) (calls_of ports.new)
-        (WentAt N.stands N.clock N.left_since N.honest (mirror_of ports.old) (mirror_of ports.new)) }
-    ensures asked { KeepsTelling N.asked (mirror_of ports.old) (mirror_of ports.new) (calls_of ports.old)
-        (calls_of ports.new) }
-    ensures answered { KeepsAnswers M.answered (master_of ports.old) (master_of ports.new) (calls_of ports.old)
-        (calls_of ports.new) }
-    ensures world { (order : Order) → Follows (begun order) state
-        → IsEvents (M.is_at (master_of ports.old)) (M.is_at (master_of ports.new))
-        (N.stands (mirror_of ports.old)) (N.stands (mirror_of ports.new)) (N.seat (mirror_of ports.old)) }
-    ensures stops { (order : Order) → Follows (begun order) state
-        → StopsAsMirror (M.is_at (master_of ports.old)) (M.is_at (master_of ports.new))
-        (N.stands (mirror_of ports.old)) (N.seat (mirror_of ports.old)) N.clock N.left_since
-        (N.honest (mirror_of ports.old)) (mirror_of ports.old) (mirror_of ports.new) }
+    ensures ran { RunsJob R.Report ports.old ports.new state result }
+    ensures mirror { MovesAsSaid N.MirrorPort ports.old ports.new }
+    ensures asked { SaysCalls N.MirrorPort ports.old ports.new }
+    ensures answered { SaysQuestions M.MasterPort ports.old ports.new }
+    ensures world { RunsInWorld M.MasterPort N.MirrorPort ports.old ports.new state }
+    ensures stops { StopsInWorld M.MasterPort N.MirrorPort ports.old ports.new state }
 {
     every_run();
     answers_are_heard();
@@ -132,28 +115,21 @@ fn next<M: MasterPort + Drop, N: MirrorPort + Drop, R: Report + Drop>(
     state: &JobState,
 ) -> Option<Answer>
     requires ready { IsReady (deed_in state.now) ports.old }
-    requires made { IsKeptFor (N.begins_with (mirror_of ports.old)) (deed_in state.now) (tree_of ports.old) }
+    requires made { HasTreeFor N.MirrorPort ports.old (deed_in state.now) }
     ensures room { IfSome result (λ a. KeepsRoom (deed_in state.now) a ports.old ports.new) }
     ensures can { IfSome result CanBe }
     ensures none { result ≡ None → (deed_in state.now ≡ Ends) × (calls_of ports.new ≡ calls_of ports.old) ×
         (report_of ports.new ≡ report_of ports.old) }
-    ensures some { IfSome result
-        (λ a. Acted (deed_in state.now) a (calls_of ports.old) (calls_of ports.new) (R.heard (report_of ports.old))
-        (R.heard (report_of ports.new))) }
+    ensures some { IfSome result (Speaks R.Report ports.old ports.new (deed_in state.now)) }
     ensures stays { result ≡ None → mirror_of ports.new ≡ mirror_of ports.old }
-    ensures mirror { IfSome result
-        (λ a. WentAt N.stands N.clock N.left_since N.honest (mirror_of ports.old) (mirror_of ports.new)
-        (accepted_by (deed_in state.now) (outcome_of a)) (counted_by (deed_in state.now) (outcome_of a))) }
-    ensures asked { KeepsTelling N.asked (mirror_of ports.old) (mirror_of ports.new) (calls_of ports.old)
-        (calls_of ports.new) }
-    ensures answered { KeepsAnswers M.answered (master_of ports.old) (master_of ports.new) (calls_of ports.old)
-        (calls_of ports.new) }
+    ensures mirror { IfSome result (MovesMirror N.MirrorPort ports.old ports.new (deed_in state.now)) }
+    ensures asked { SaysCalls N.MirrorPort ports.old ports.new }
+    ensures answered { SaysQuestions M.MasterPort ports.old ports.new }
     ensures goes { IfSome result (λ _. deed_in state.now ≢ Ends) }
     ensures master { result ≡ None → master_of ports.new ≡ master_of ports.old }
-    ensures happens { IfSome result (λ a. Happens (M.is_at (master_of ports.old)) (M.is_at (master_of ports.new))
-        (N.stands (mirror_of ports.old)) (N.stands (mirror_of ports.new)) (N.seat (mirror_of ports.old))
-        (N.seat (mirror_of ports.new)) (deed_in state.now) a trees.old.items trees.new.items) }
-    ensures first { BeginsOn N.begins_with (mirror_of ports.old) (mirror_of ports.new) trees.old.items trees.new.items }
+    ensures happens { IfSome result (HappensAt M.MasterPort N.MirrorPort ports.old ports.new trees.old.items
+        trees.new.items (deed_in state.now)) }
+    ensures first { MirrorBeginsOn N.MirrorPort ports.old ports.new trees.old.items trees.new.items }
     ensures kept { IfSome result (λ a. KeepsMade trees.new.items (deed_in state.now) a (tree_of ports.new)) }
 {
     match decide(state) {
