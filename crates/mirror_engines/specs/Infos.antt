@@ -2,10 +2,16 @@
 use Rattle.std.specs.Prelude.{◌≡◌, ◌⊎◌, ℕ, Bool, true, false, List, [], ◌∷◌, ◌++◌, Option, Some, None, is_none, codes, if◌then◌else◌}
 use Rattle.std.specs.Option.{option_map_or}
 use Rattle.std.specs.FinMap as finite
+use Rattle.byte_streams.specs.Causes.{Rose}
+use Rattle.byte_streams.specs.declared.output.Output.{Ghosts as OutputGhosts}
+use Rattle.fleet_disk.specs.declared.disk.Disk.{Ghosts}
 use Rattle.node_base.specs.Props.{PropMap}
 use Rattle.node_base.specs.declared.refusal.Refusal.{Refusal}
 use Rattle.node_base.specs.declared.refusal.Refusal.TheVariants as refusal
 use Rattle.node_base.specs.declared.told_number.ToldNumber.TheVariants as told
+use Rattle.repo_core.specs.Repository.{head_of, props_at}
+use Rattle.repo_store.specs.Words.{revisions_of}
+use Rattle.repo_store.specs.declared.store.RepoStore.{RepoStore}
 use Rattle.sync_core.specs.Faults.{told_of}
 use Rattle.sync_core.specs.Names.{url_name, uuid_name, merged_name, copying_name, number_at}
 use Rattle.sync_core.specs.declared.number.Number.{Number}
@@ -49,3 +55,16 @@ abbrev pub info_text : PropMap → List ℕ
 info_text own =
     info_line (codes "Source URL: ") (valued (finite.get own url_name))
     ++ (info_line (codes "Source Repository UUID: ") (valued (finite.get own uuid_name)) ++ info_line (codes "Last Merged Revision: ") (valued (merged_digits own)))
+
+-- the properties of a store's revision 0
+abbrev pub zero_props : {D : Type 0} {G : Ghosts D} → RepoStore D G → PropMap
+zero_props store = props_at (revisions_of store) 0
+
+-- nothing of the store's mirror can't be told
+abbrev pub IsTold : {D : Type 0} {G : Ghosts D} → RepoStore D G → Type 0
+IsTold store = info_fault (zero_props store) (head_of (revisions_of store)) ≡ None
+
+-- nothing is told of it, for what can't be; or the writer failed (49)
+abbrev pub RefusesInfo : {D O : Type 0} {G : Ghosts D} → OutputGhosts O → RepoStore D G → O → O → Refusal → Type 0
+RefusesInfo W store old new e =
+    (IsUntold (zero_props store) (head_of (revisions_of store)) e × (W.contents new ≡ W.contents old)) ⊎ ((e ≡ refusal.PeerFailed) × Rose (W.failures old) (W.failures new))

@@ -1,6 +1,7 @@
 -- What a run over a mirror's store says, prints and leaves.
 use Rattle.std.specs.Prelude.{◌≡◌, ◌↔◌, ◌==◌, ◌≤◌, ℕ, Bool, true, false, List, [], Option, None, Result, Ok, Err, IfErr, OnOk, if◌then◌else◌}
 use Rattle.byte_streams.specs.Causes.{Rose}
+use Rattle.byte_streams.specs.declared.output.Output.{Ghosts as OutputGhosts}
 use Rattle.fleet_disk.specs.Image.{Image}
 use Rattle.fleet_disk.specs.Rules.{LeavesOnly}
 use Rattle.fleet_disk.specs.declared.disk.Disk.{Ghosts}
@@ -21,6 +22,7 @@ use Rattle.sync_job.specs.Mirrors.{MirrorNow, Keeps}
 use Rattle.sync_job.specs.Questions.{Exchange}
 use Rattle.sync_job.specs.Runs.{IsSaid, IsSyncRun, IsInitRun, IsCopyRun}
 use Rattle.sync_job.specs.Said.{Spoken, Says, told_in}
+use Rattle.sync_job.specs.declared.master.MasterPort.{Ghosts as MasterGhosts}
 use Rattle.sync_job.specs.declared.report.Told.{Told}
 use Rattle.mirror_engines.specs.Lines.{IsPrinted}
 use Rattle.mirror_engines.specs.Worlds.{Hears, Leads}
@@ -97,3 +99,7 @@ abbrev pub IsWorked : Work → List Spoken → Result (Unit {0}) SyncFault → T
 IsWorked (work.Initialize url) = IsInitialised url
 IsWorked (work.Synchronize token steal) = IsSynchronised token steal
 IsWorked (work.CopyRevprops token low high) = IsCopied token low high
+
+-- a run over a mirror's store and a master, and what its output holds
+abbrev pub IsRunOver : {D M O : Type 0} {G : Ghosts D} → MasterGhosts M → OutputGhosts O → M → (List Spoken → Result (Unit {0}) SyncFault → Type 0) → RepoStore D G → O → RepoStore D G → O → Result (Unit {0}) Refusal → Type 0
+IsRunOver H W master IsRun old before new now result = Serves H.answered master IsRun old new (W.contents before) (W.contents now) (Rose (W.failures before) (W.failures now)) result

@@ -1,12 +1,9 @@
 //! How a mirror stands.
-ghost use Rattle.std.specs.Prelude.{◌≡◌, ◌⊎◌, None, Some, IfOk, IfSome, IfErr, OnOk, OnErr};
-ghost use Rattle.std.specs.Io.KnownBytes.{Appends};
+ghost use Rattle.std.specs.Prelude.{◌≡◌, None, Some, IfOk, IfSome, IfErr, OnOk, OnErr};
 ghost use Rattle.std.specs.Option.{option_copied};
-ghost use Rattle.byte_streams.specs.Causes.{Rose};
-ghost use Rattle.fleet_engines.specs.Runs.{Counted};
-ghost use Rattle.repo_core.specs.Repository.{head_of, props_at};
-ghost use Rattle.repo_store.specs.Words.{revisions_of};
-ghost use Rattle.mirror_engines.specs.Infos.{info_fault, info_line, info_text, merged_digits, spells_number, unmerged, valued, IsUntold};
+ghost use Rattle.fleet_engines.specs.Streams.{FailedIn, OnlyPeerFails, TellsFailure, Writes};
+ghost use Rattle.mirror_engines.specs.Infos.{info_fault, info_line, info_text, merged_digits, spells_number};
+ghost use Rattle.mirror_engines.specs.Infos.{unmerged, valued, zero_props, IsTold, IsUntold, RefusesInfo};
 
 use byte_streams::Output;
 use fleet_disk::Disk;
@@ -26,14 +23,10 @@ pub fn run_info<D: Disk + Drop, O: Output>(
     store: &RepoStore<D>,
     output: &mut O,
 ) -> Result<(), Refusal>
-    ensures fine { OnOk result (info_fault (props_at (revisions_of store.now) 0) (head_of (revisions_of store.now))
-        ≡ None) }
-    ensures ok { OnOk result (Appends (O.contents output.old) (O.contents output.new)
-        (info_text (props_at (revisions_of store.now) 0))) }
-    ensures refused { IfErr result (λ e. (IsUntold (props_at (revisions_of store.now) 0)
-        (head_of (revisions_of store.now)) e × (O.contents output.new ≡ O.contents output.old))
-        ⊎ ((e ≡ Refusal.PeerFailed) × Rose (O.failures output.old) (O.failures output.new))) }
-    ensures peer { Counted result (O.failures output.old) (O.failures output.new) }
+    ensures fine { OnOk result (IsTold store.now) }
+    ensures ok { OnOk result (Writes O.contents output.old output.new (info_text (zero_props store.now))) }
+    ensures refused { IfErr result (RefusesInfo O.Output store.now output.old output.new) }
+    ensures peer { TellsFailure O.failures output.old output.new result }
 {
     let repo = store.repo();
     let own = own_of(repo);
@@ -96,10 +89,10 @@ fn merged_digits(own: &Props) -> Option<&[u8]>
 }
 
 fn write_all<O: Output>(own: &Props, output: &mut O) -> Result<(), Refusal>
-    ensures ok { OnOk result (Appends (O.contents output.old) (O.contents output.new) (info_text own.now)) }
-    ensures only_peer { IfErr result (λ e. e ≡ Refusal.PeerFailed) }
-    ensures failed { OnErr result (Rose (O.failures output.old) (O.failures output.new)) }
-    ensures peer { Counted result (O.failures output.old) (O.failures output.new) }
+    ensures ok { OnOk result (Writes O.contents output.old output.new (info_text own.now)) }
+    ensures only_peer { OnlyPeerFails result }
+    ensures failed { OnErr result (FailedIn O.failures output.old output.new) }
+    ensures peer { TellsFailure O.failures output.old output.new result }
 {
     write_line("Source URL: ", url(own), output)?;
     write_line("Source Repository UUID: ", uuid(own), output)?;
@@ -108,11 +101,11 @@ fn write_all<O: Output>(own: &Props, output: &mut O) -> Result<(), Refusal>
 
 // A line of a label and a value, which is empty where there is none.
 fn write_line<O: Output>(label: &str, value: Option<&[u8]>, output: &mut O) -> Result<(), Refusal>
-    ensures ok { OnOk result (Appends (O.contents output.old) (O.contents output.new)
-        (info_line label.now (valued (option_copied value.entry)))) }
-    ensures only_peer { IfErr result (λ e. e ≡ Refusal.PeerFailed) }
-    ensures failed { OnErr result (Rose (O.failures output.old) (O.failures output.new)) }
-    ensures peer { Counted result (O.failures output.old) (O.failures output.new) }
+    ensures ok { OnOk result
+        (Writes O.contents output.old output.new (info_line label.now (valued (option_copied value.entry)))) }
+    ensures only_peer { OnlyPeerFails result }
+    ensures failed { OnErr result (FailedIn O.failures output.old output.new) }
+    ensures peer { TellsFailure O.failures output.old output.new result }
 {
     match value {
         Some(value) => write_parts(output, label.as_bytes(), value, b"\n"),

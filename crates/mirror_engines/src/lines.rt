@@ -1,8 +1,6 @@
 //! The lines that a run prints.
-ghost use Rattle.std.specs.Prelude.{◌≡◌, IfErr, OnOk, OnErr};
-ghost use Rattle.std.specs.Io.KnownBytes.{Appends};
-ghost use Rattle.byte_streams.specs.Causes.{Rose};
-ghost use Rattle.fleet_engines.specs.Runs.{Counted};
+ghost use Rattle.std.specs.Prelude.{OnOk, OnErr};
+ghost use Rattle.fleet_engines.specs.Streams.{FailedIn, OnlyPeerFails, TellsFailure, Writes};
 ghost use Rattle.mirror_engines.specs.Lines.{line_of};
 
 use byte_streams::Output;
@@ -12,10 +10,10 @@ use sync_job::Told;
 
 // Writes the line that tells what a job has done.
 fn write_told<O: Output>(output: &mut O, told: &Told) -> Result<(), Refusal>
-    ensures ok { OnOk result (Appends (O.contents output.old) (O.contents output.new) (line_of told.now)) }
-    ensures peer { Counted result (O.failures output.old) (O.failures output.new) }
-    ensures failed { OnErr result (Rose (O.failures output.old) (O.failures output.new)) }
-    ensures only_peer { IfErr result (λ e. e ≡ Refusal.PeerFailed) }
+    ensures ok { OnOk result (Writes O.contents output.old output.new (line_of told.now)) }
+    ensures peer { TellsFailure O.failures output.old output.new result }
+    ensures failed { OnErr result (FailedIn O.failures output.old output.new) }
+    ensures only_peer { OnlyPeerFails result }
 {
     match told {
         Told::Committed(number) => {
@@ -38,10 +36,10 @@ fn write_told<O: Output>(output: &mut O, told: &Told) -> Result<(), Refusal>
 /// Writes the line that tells what a job has done, and hands it on. PeerFailed (49) where the output failed, and only
 /// there.
 pub fn say<O: Output>(output: &mut O, told: &Told) -> Result<(), Refusal>
-    ensures ok { OnOk result (Appends (O.contents output.old) (O.contents output.new) (line_of told.now)) }
-    ensures peer { Counted result (O.failures output.old) (O.failures output.new) }
-    ensures failed { OnErr result (Rose (O.failures output.old) (O.failures output.new)) }
-    ensures only_peer { IfErr result (λ e. e ≡ Refusal.PeerFailed) }
+    ensures ok { OnOk result (Writes O.contents output.old output.new (line_of told.now)) }
+    ensures peer { TellsFailure O.failures output.old output.new result }
+    ensures failed { OnErr result (FailedIn O.failures output.old output.new) }
+    ensures only_peer { OnlyPeerFails result }
 {
     write_told(output, told)?;
     hand_on(output)

@@ -1,7 +1,6 @@
 //! A report that is printed.
-ghost use Rattle.std.specs.Prelude.{◌≡◌, false, List, [], ◌++◌, ◌∷◌};
-ghost use Rattle.sync_job.specs.declared.report.Told.{Told as IsTold};
-ghost use Rattle.mirror_engines.specs.Ports.{is_lost, output_of, HasPrinted};
+ghost use Rattle.std.specs.Prelude.{◌≡◌, false};
+ghost use Rattle.mirror_engines.specs.Ports.{is_lost, output_of, PrintsMore};
 
 use crate::lines::say;
 use byte_streams::Output;
@@ -44,8 +43,7 @@ impl<O: Output + Drop> Printer<O> {
 
     // Prints a line, where none was lost.
     fn tell(&mut self, told: &Told)
-        ensures told { (first : _) (before : List IsTold) → HasPrinted O.contents O.failures self.old first before
-            → HasPrinted O.contents O.failures self.new first (before ++ told.now ∷ []) }
+        ensures told { PrintsMore O.Output self.old told.now self.new }
     {
         if self.lost {
             return;

@@ -1,11 +1,10 @@
 //! Runs over a mirror's store.
 ghost use Rattle.std.specs.Prelude.{◌≡◌, ◌<◌, length, None};
-ghost use Rattle.byte_streams.specs.Causes.{Rose};
 ghost use Rattle.repo_core.specs.Repository.{Repository};
 ghost use Rattle.repo_store.specs.Words.{repository_of, revisions_of, HasFailed};
 ghost use Rattle.sync_job.specs.Alone.{begun, holder_of, store_of, StandsAt};
 ghost use Rattle.mirror_engines.specs.Runs.{answer_of, told_as, IsCopied, IsInitialised, IsSynchronised, IsWorked};
-ghost use Rattle.mirror_engines.specs.Runs.{Serves, TellsOutput};
+ghost use Rattle.mirror_engines.specs.Runs.{IsRunOver, TellsOutput};
 ghost use Rattle.mirror_engines.specs.Worlds.{Brings, IsInWorld};
 
 use crate::printer::Printer;
@@ -31,8 +30,8 @@ pub fn run_initialize<D: Disk + Drop, M: MasterPort + Drop, O: Output + Drop>(
     url: PropValue,
     output: O,
 ) -> (RepoStore<D>, O, Result<(), Refusal>)
-    ensures ran { Serves M.answered master (IsInitialised url) mirror result.0 (O.contents output) (O.contents result.1)
-        (Rose (O.failures output) (O.failures result.1)) result.2 }
+    ensures ran { IsRunOver M.MasterPort O.Output master (IsInitialised url) mirror output result.0 result.1
+        result.2 }
     ensures world { IsInWorld M.MasterPort master mirror result.0 }
     ensures output { TellsOutput (O.failures output) (O.failures result.1) result.2 }
 {
@@ -52,8 +51,8 @@ pub fn run_synchronize<D: Disk + Drop, M: MasterPort + Drop, O: Output + Drop>(
     steal: bool,
     output: O,
 ) -> (RepoStore<D>, O, Result<(), Refusal>)
-    ensures ran { Serves M.answered master (IsSynchronised token steal) mirror result.0 (O.contents output)
-        (O.contents result.1) (Rose (O.failures output) (O.failures result.1)) result.2 }
+    ensures ran { IsRunOver M.MasterPort O.Output master (IsSynchronised token steal) mirror output result.0 result.1
+        result.2 }
     ensures world { IsInWorld M.MasterPort master mirror result.0 }
     ensures output { TellsOutput (O.failures output) (O.failures result.1) result.2 }
 {
@@ -74,8 +73,8 @@ pub fn run_copy_revprops<D: Disk + Drop, M: MasterPort + Drop, O: Output + Drop>
     high: RevNo,
     output: O,
 ) -> (RepoStore<D>, O, Result<(), Refusal>)
-    ensures ran { Serves M.answered master (IsCopied token low high) mirror result.0 (O.contents output) (O.contents result.1)
-        (Rose (O.failures output) (O.failures result.1)) result.2 }
+    ensures ran { IsRunOver M.MasterPort O.Output master (IsCopied token low high) mirror output result.0 result.1
+        result.2 }
     ensures world { IsInWorld M.MasterPort master mirror result.0 }
     ensures output { TellsOutput (O.failures output) (O.failures result.1) result.2 }
 {
@@ -96,8 +95,7 @@ pub fn run_work<D: Disk + Drop, M: MasterPort + Drop, O: Output + Drop>(
     work: Work,
     output: O,
 ) -> (RepoStore<D>, O, Result<(), Refusal>)
-    ensures ran { Serves M.answered master (IsWorked work) mirror result.0 (O.contents output) (O.contents result.1)
-        (Rose (O.failures output) (O.failures result.1)) result.2 }
+    ensures ran { IsRunOver M.MasterPort O.Output master (IsWorked work) mirror output result.0 result.1 result.2 }
     ensures brings { Brings M.MasterPort work master mirror result.0 result.2 }
     ensures output { TellsOutput (O.failures output) (O.failures result.1) result.2 }
 {
