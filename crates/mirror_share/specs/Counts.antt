@@ -43,3 +43,11 @@ pub record KnowsCounts (job : Job) (k : Counts) : Type 0 where
 abbrev pub TellsCounts : Counts → Given → Type 0
 TellsCounts k given.Done = Unit {0}
 TellsCounts k (given.Seen s) = counts_of (numbers_of s) ≡ k
+
+-- a book's total is what the hand's share of it amounts to, and both stay
+abbrev pub IsAudited : ℕ → ℕ → ℕ → ℕ → Type 0
+IsAudited total amount later_total later_amount = (amount ≡ total) × (later_amount ≡ amount) × (later_total ≡ total)
+
+-- a book's total is this count, and so is what the hand's share amounts to
+abbrev pub CountsAs : ℕ → ℕ → ℕ → Type 0
+CountsAs n total amount = (total ≡ n) × (amount ≡ n)

@@ -1,5 +1,5 @@
 -- A shared mirror as a port.
-use Rattle.std.specs.Prelude.{◌≡◌, List, [], ◌∷◌, Option, Result, IfErr, IfOk, OnOk}
+use Rattle.std.specs.Prelude.{◌≡◌, List, [], ◌∷◌, ◌++◌, Option, Result, IfErr, IfOk, OnOk}
 use Rattle.std.specs.List.{AllByRecursion}
 use Rattle.node_base.specs.Tree.{PathMap}
 use Rattle.store_share.specs.Seats.{known_by, seen_by}
@@ -57,3 +57,19 @@ pub record WasAsked {R L D : Type 0} {r : _} {g : _} (now first : SeatMirror R L
   pub steps : AllByRecursion (λ a. IsStepOf (share_of first) (place_of (seat_of first)) a.call a.result) calls
   pub seen : AllByRecursion (λ a. IsSeenBy (reader_of now) a.call a.result) calls
   pub carried : AreCarried (hand_of (seat_of first)) calls (hand_of (seat_of now))
+
+-- since whatever the port was it was asked this too
+abbrev pub IsAsked : {R L D : Type 0} {r : _} {g : _} → SeatMirror R L D r g → Asked → SeatMirror R L D r g → Type 0
+IsAsked {R} {L} {D} {r} {g} old asked new = (first : SeatMirror R L D r g) (calls : List Asked) → WasAsked old first calls → WasAsked new first (calls ++ asked ∷ [])
+
+-- it was asked nothing more
+abbrev pub IsUnasked : {R L D : Type 0} {r : _} {g : _} → SeatMirror R L D r g → SeatMirror R L D r g → Type 0
+IsUnasked {R} {L} {D} {r} {g} old new = (first : SeatMirror R L D r g) (calls : List Asked) → WasAsked old first calls → WasAsked new first calls
+
+-- P of each mirror of which it is known that it stands there
+abbrev pub OfNowhere : (MirrorNow → Type 0) → Type 0
+OfNowhere P = (m : MirrorNow) → NowhereStands m → P m
+
+-- P of the trees that it may begin with
+abbrev pub OfUntold : (List PathMap → Type 0) → Type 0
+OfUntold P = (trees : List PathMap) → TellsNothing trees → P trees

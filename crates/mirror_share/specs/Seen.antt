@@ -22,3 +22,7 @@ HasSeenHead (given.Seen s) seen = s.head ≤ seen
 -- a reader has seen all that a repository has, and knows it
 abbrev pub HasSeenAll : {L : Type 0} {r : _} → ReaderSeat L r → Repository → Type 0
 HasSeenAll seat x = (seen_by seat ≡ head_of x.revisions) × ((n : ℕ) → n ≤ head_of x.revisions → known_by seat n ≡ rev_at x n)
+
+-- of a call that commits a reader has seen the revision, with its set
+abbrev pub HasSeenCall : {L : Type 0} {r : _} → ReaderSeat L r → Call → Type 0
+HasSeenCall reader call = HasSeenCommit call (known_by reader) (seen_by reader)

@@ -1,7 +1,8 @@
 -- What a shared mirror's book is, and what its ledgers count.
-use Rattle.std.specs.Prelude.{Option, is_some}
+use Rattle.std.specs.Prelude.{ℕ, List, Option, is_some}
 use Rattle.repo_store.specs.Words.{revisions_of}
-use Rattle.mirror_share.specs.Book.{holder_of, is_stuck_in, store_in}
+use Rattle.store_share.specs.declared.book.MasterBook.{MasterBook}
+use Rattle.mirror_share.specs.Book.{holder_of, is_stuck_in, jobs_of, master_of, store_in}
 use Rattle.mirror_share.specs.Books.{IsBookKept, IsCounted, IsLocked}
 use Rattle.mirror_share.specs.Counts.{Counts, counts_as}
 use Rattle.mirror_share.specs.declared.book.MirrorBook.{MirrorBook}
@@ -32,3 +33,10 @@ IsKeptIn book ledgers spare = IsBookKept (is_stuck_in book) (revisions_of (store
 -- so it is in a mirror's book
 abbrev pub KeepsCounts : {L D : Type 0} {r : _} {g : _} → MirrorBook L D r g → Type 0
 KeepsCounts book = IsKeptIn book.book book.ledgers book.spare
+
+-- its store with what the row shows of it, and the tokens of the jobs that run
+abbrev pub master_in : {L D : Type 0} {r : _} {g : _} → MirrorBook L D r g → MasterBook L D r g
+master_in book = master_of book.book
+
+abbrev pub jobs_in : {L D : Type 0} {r : _} {g : _} → MirrorBook L D r g → List (Option (List ℕ))
+jobs_in book = jobs_of book.book

@@ -1,26 +1,20 @@
 //! What lies under the lock of a shared mirror.
-ghost use Rattle.std.specs.Prelude.{◌≡◌, ◌<◌, ◌≤◌, ◌⊎◌, ℕ, [], true, false, Some, None, is_some, is_none};
+ghost use Rattle.std.specs.Prelude.{◌≡◌, ◌<◌, true, false, Some, None, is_some, is_none};
 ghost use Rattle.std.specs.Prelude.{IfOk, IfErr, OnOk, OnErr};
-ghost use Rattle.std.specs.Option.{option_map_or};
-ghost use Rattle.gate_log.specs.declared.fault.LogFault.TheVariants as log;
-ghost use Rattle.repo_core.specs.Repository.{props_at};
-ghost use Rattle.repo_core.specs.declared.fault.RepoFault.TheVariants as core;
 ghost use Rattle.repo_store.specs.Words.{identity_of, repository_of, revisions_of, IsKept};
-ghost use Rattle.repo_store.specs.declared.fault.StoreFault.TheVariants as fault;
-ghost use Rattle.store_share.specs.Row.{cells_in, rev_at};
-ghost use Rattle.store_share.specs.declared.rev.Rev.{Rev as RevOf};
-ghost use Rattle.store_share.specs.Book.{head_of, store_of};
-ghost use Rattle.store_share.specs.Seats.{known_by, seen_by};
+ghost use Rattle.store_share.specs.Row.{cells_in};
+ghost use Rattle.store_share.specs.Book.{head_of, repo_of, GivesProps, IsAtLeast, IsOneOf, IsFetchFault, KnowsShown};
+ghost use Rattle.store_share.specs.Seats.{seen_by, KeepsFound, KeepsSeen, SeesOn};
 ghost use Rattle.sync_core.specs.Calls.{call_of};
 ghost use Rattle.sync_core.specs.Mirror.{standing_of};
 ghost use Rattle.sync_job.specs.Mirrors.{IsFit};
-ghost use Rattle.mirror_share.specs.Book.{calls_of, holder_of, is_stuck_in, jobs_of, master_of, opening_of, store_in};
-ghost use Rattle.mirror_share.specs.Carried.{IsCarried};
+ghost use Rattle.mirror_share.specs.Book.{holder_of, is_stuck_in, master_of, store_in, BeginsAt, HasNobody};
+ghost use Rattle.mirror_share.specs.Book.{KeepsCalls, KeepsHolder, ReleasesBy, StandsStill};
 ghost use Rattle.mirror_share.specs.Counts.{count_of, holder_count};
-ghost use Rattle.mirror_share.specs.Places.{IsEntryFault, job_at};
+ghost use Rattle.mirror_share.specs.Places.{job_at, IsEntryFault, JobsStay, OthersStay, RunsNowhere};
 ghost use Rattle.mirror_share.specs.Refused.{IsRefusalOf};
-ghost use Rattle.mirror_share.specs.Seats.{hand_of, place_of};
-ghost use Rattle.mirror_share.specs.Seen.{HasSeenCommit, HasSeenHead};
+ghost use Rattle.mirror_share.specs.Seats.{hand_of, place_of, CarriesHand};
+ghost use Rattle.mirror_share.specs.Seen.{HasSeenCall, HasSeenHead};
 
 use crate::blanks::Blanks;
 use crate::calls::CallBook;
@@ -58,16 +52,14 @@ pub struct MirrorBook<L: MirrorName, D: Disk> {
 impl<L: MirrorName, D: Disk> MirrorBook<L, D> {
     ghost use Rattle.mirror_share.specs.Names.{AreNamed};
     ghost use Rattle.mirror_share.specs.Stepped.{IsStepFrom, IsWhole, Stepped};
-    ghost use Rattle.mirror_share.specs.Words.{mirror_of, KeepsCounts};
+    ghost use Rattle.mirror_share.specs.Words.{jobs_in, master_in, mirror_of, KeepsCounts};
 
     /// The book of a mirror that is opened, at which nobody runs, with ledgers that are blank.
     pub(crate) fn open(alloc: Global, book: MasterBook<L, D>, blanks: Blanks) -> MirrorBook<L, D>
         requires { AreNamed blanks L.merged L.copying L.head L.holder }
         ensures book { master_of (mirror_of result) ≡ book }
-        ensures opening { (opening_of (mirror_of result) ≡ repository_of (store_of book))
-            × (calls_of (mirror_of result) ≡ []) }
-        ensures nobody { (holder_of (mirror_of result) ≡ None)
-            × ((i : ℕ) → job_at (jobs_of (mirror_of result)) i ≡ None) }
+        ensures opening { BeginsAt (repo_of book) (mirror_of result) }
+        ensures nobody { HasNobody (mirror_of result) }
     {
         let book = CallBook::open(alloc, book);
         let numbers = numbers_in(book.repo());
@@ -134,18 +126,13 @@ impl<L: MirrorName, D: Disk> MirrorBook<L, D> {
     /// OutOfMemory (70).
     pub fn enter_job(&mut self, alloc: Global, token: &Token) -> Result<JobSeat<L>, SyncFault>
         ensures none { IfOk result (λ s. hand_of s ≡ None) }
-        ensures alone { IfOk result (λ _. (i : ℕ) → job_at (jobs_of (mirror_of self.old)) i ≡ Some token.now → ⊥) }
-        ensures free { IfOk result (λ s. job_at (jobs_of (mirror_of self.old)) (place_of s) ≡ None) }
-        ensures there { IfOk result (λ s. job_at (jobs_of (mirror_of self.new)) (place_of s) ≡ Some token.now) }
-        ensures others { IfOk result (λ s. (j : ℕ) → (j ≡ place_of s → ⊥)
-            → job_at (jobs_of (mirror_of self.new)) j ≡ job_at (jobs_of (mirror_of self.old)) j) }
-        ensures refused { IfErr result (IsEntryFault (jobs_of (mirror_of self.old)) token.now) }
-        ensures kept { OnErr result ((j : ℕ)
-            → job_at (jobs_of (mirror_of self.new)) j ≡ job_at (jobs_of (mirror_of self.old)) j) }
-        ensures same { (master_of (mirror_of self.new) ≡ master_of (mirror_of self.old))
-            × (holder_of (mirror_of self.new) ≡ holder_of (mirror_of self.old))
-            × (calls_of (mirror_of self.new) ≡ calls_of (mirror_of self.old))
-            × (opening_of (mirror_of self.new) ≡ opening_of (mirror_of self.old)) }
+        ensures alone { IfOk result (λ _. RunsNowhere (jobs_in self.old) token.now) }
+        ensures free { IfOk result (λ s. job_at (jobs_in self.old) (place_of s) ≡ None) }
+        ensures there { IfOk result (λ s. job_at (jobs_in self.new) (place_of s) ≡ Some token.now) }
+        ensures others { IfOk result (λ s. OthersStay (place_of s) (jobs_in self.old) (jobs_in self.new)) }
+        ensures refused { IfErr result (IsEntryFault (jobs_in self.old) token.now) }
+        ensures kept { OnErr result (JobsStay (jobs_in self.old) (jobs_in self.new)) }
+        ensures same { KeepsHolder (mirror_of self.old) (mirror_of self.new) }
     {
         match self.book.enter_job(alloc, token) {
             Ok(place) => Ok(JobSeat::new(place)),
@@ -156,14 +143,10 @@ impl<L: MirrorName, D: Disk> MirrorBook<L, D> {
     /// The job leaves: its place is free. Where the seat has the hand it goes back to the book, and there is no holder from
     /// then on; the lock stays.
     pub fn leave(&mut self, seat: JobSeat<L>)
-        ensures left { job_at (jobs_of (mirror_of self.new)) (place_of seat) ≡ None }
-        ensures holder { holder_of (mirror_of self.new)
-            ≡ option_map_or (λ _. None) (hand_of seat) (holder_of (mirror_of self.old)) }
-        ensures others { (j : ℕ) → (j ≡ place_of seat → ⊥)
-            → job_at (jobs_of (mirror_of self.new)) j ≡ job_at (jobs_of (mirror_of self.old)) j }
-        ensures same { (master_of (mirror_of self.new) ≡ master_of (mirror_of self.old))
-            × (calls_of (mirror_of self.new) ≡ calls_of (mirror_of self.old))
-            × (opening_of (mirror_of self.new) ≡ opening_of (mirror_of self.old)) }
+        ensures left { job_at (jobs_in self.new) (place_of seat) ≡ None }
+        ensures holder { ReleasesBy seat (mirror_of self.old) (mirror_of self.new) }
+        ensures others { OthersStay (place_of seat) (jobs_in self.old) (jobs_in self.new) }
+        ensures same { KeepsCalls (mirror_of self.old) (mirror_of self.new) }
     {
         let MirrorBook {
             book,
@@ -194,7 +177,7 @@ impl<L: MirrorName, D: Disk> MirrorBook<L, D> {
         ensures fits { IfOk result (IsFit (call_of call.now)) }
         ensures refused { IfErr result (IsRefusalOf (call_of call.now)) }
         ensures seat { place_of seat.new ≡ place_of seat.old }
-        ensures carried { IsCarried (hand_of seat.old) (hand_of seat.new) (call_of call.now) result }
+        ensures carried { CarriesHand seat.old seat.new (call_of call.now) result }
     {
         let MirrorBook {
             book,
@@ -219,11 +202,11 @@ impl<L: MirrorName, D: Disk> MirrorBook<L, D> {
         ensures fits { IfOk result (IsFit (call_of call.now)) }
         ensures refused { IfErr result (IsRefusalOf (call_of call.now)) }
         ensures seat { place_of seat.new ≡ place_of seat.old }
-        ensures carried { IsCarried (hand_of seat.old) (hand_of seat.new) (call_of call.now) result }
-        ensures commit { OnOk result (HasSeenCommit (call_of call.now) (known_by reader.new) (seen_by reader.new)) }
+        ensures carried { CarriesHand seat.old seat.new (call_of call.now) result }
+        ensures commit { OnOk result (HasSeenCall reader.new (call_of call.now)) }
         ensures head { IfOk result (λ r. HasSeenHead r (seen_by reader.new)) }
-        ensures later { seen_by reader.old ≤ seen_by reader.new }
-        ensures kept { (r : ℕ) → r ≤ seen_by reader.old → known_by reader.new r ≡ known_by reader.old r }
+        ensures later { SeesOn reader.old reader.new }
+        ensures kept { KeepsSeen reader.old reader.new }
     {
         let _head = self.book.repo().head();
         match self.step(alloc, row, seat, call) {
@@ -238,17 +221,13 @@ impl<L: MirrorName, D: Disk> MirrorBook<L, D> {
 
     /// The newest revision that the reader has seen, or that the book shows; the reader has seen it then.
     pub fn latest(&mut self, reader: &mut ReaderSeat<L>) -> RevNo
-        ensures most { (seen_by reader.old ≤ result) × (head_of (master_of (mirror_of self.old)) ≤ result) }
-        ensures one { (result ≡ seen_by reader.old) ⊎ (result ≡ head_of (master_of (mirror_of self.old))) }
+        ensures most { IsAtLeast reader.old (master_in self.old) result }
+        ensures one { IsOneOf reader.old (master_in self.old) result }
         ensures seen { seen_by reader.new ≡ result }
-        ensures known { (r : ℕ) → r ≤ head_of (master_of (mirror_of self.old))
-            → known_by reader.new r ≡ rev_at (repository_of (store_in (mirror_of self.old))) r }
-        ensures kept { (r : ℕ) → r ≤ seen_by reader.old → known_by reader.new r ≡ known_by reader.old r }
-        ensures found { (r : ℕ) (x : RevOf) → known_by reader.old r ≡ Some x → known_by reader.new r ≡ Some x }
-        ensures same { (store_in (mirror_of self.new) ≡ store_in (mirror_of self.old))
-            × (holder_of (mirror_of self.new) ≡ holder_of (mirror_of self.old))
-            × (is_stuck_in (mirror_of self.new) ≡ is_stuck_in (mirror_of self.old))
-            × (calls_of (mirror_of self.new) ≡ calls_of (mirror_of self.old)) }
+        ensures known { KnowsShown (master_in self.old) reader.new }
+        ensures kept { KeepsSeen reader.old reader.new }
+        ensures found { KeepsFound reader.old reader.new }
+        ensures same { StandsStill (mirror_of self.old) (mirror_of self.new) }
         ensures safe { IsKept (store_in (mirror_of self.old)) }
     {
         self.book.latest(reader)
@@ -257,13 +236,9 @@ impl<L: MirrorName, D: Disk> MirrorBook<L, D> {
     /// The seat of a reader, who has seen what the book shows. The notes are of the book's row.
     pub fn seat_reader(&mut self, notes: RowNotes) -> ReaderSeat<L>
         requires { cells_in notes ≡ L.cells }
-        ensures seen { seen_by result ≡ head_of (master_of (mirror_of self.old)) }
-        ensures known { (r : ℕ) → r ≤ head_of (master_of (mirror_of self.old))
-            → known_by result r ≡ rev_at (repository_of (store_in (mirror_of self.old))) r }
-        ensures same { (store_in (mirror_of self.new) ≡ store_in (mirror_of self.old))
-            × (holder_of (mirror_of self.new) ≡ holder_of (mirror_of self.old))
-            × (is_stuck_in (mirror_of self.new) ≡ is_stuck_in (mirror_of self.old))
-            × (calls_of (mirror_of self.new) ≡ calls_of (mirror_of self.old)) }
+        ensures seen { seen_by result ≡ head_of (master_in self.old) }
+        ensures known { KnowsShown (master_in self.old) result }
+        ensures same { StandsStill (mirror_of self.old) (mirror_of self.new) }
         ensures safe { IsKept (store_in (mirror_of self.old)) }
     {
         self.book.seat_reader(notes)
@@ -271,10 +246,8 @@ impl<L: MirrorName, D: Disk> MirrorBook<L, D> {
 
     /// The properties that a revision has now. NoSuchRevision (21) above the head, OutOfMemory (70).
     pub fn rev_props(&self, number: RevNo) -> Result<Props, StoreFault>
-        ensures props { IfOk result (λ p. (number ≤ head_of (master_of (mirror_of self.now)))
-            × (p ≡ props_at (revisions_of (store_in (mirror_of self.now))) number)) }
-        ensures refused { IfErr result (λ e. ((e ≡ fault.Repo core.NoSuchRevision)
-            × (head_of (master_of (mirror_of self.now)) < number)) ⊎ (e ≡ fault.Log log.OutOfMemory)) }
+        ensures props { IfOk result (GivesProps (master_in self.now) number) }
+        ensures refused { IfErr result (IsFetchFault (master_in self.now) number) }
     {
         self.book.rev_props(number)
     }

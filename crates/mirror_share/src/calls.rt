@@ -1,15 +1,11 @@
 //! A mirror's store with the calls that were taken of it.
-ghost use Rattle.std.specs.Prelude.{◌≡◌, ◌<◌, ◌≤◌, ◌⊎◌, ◌+◌, ℕ, [], length, map, true, false, Some, None, Err};
+ghost use Rattle.std.specs.Prelude.{◌≡◌, ◌<◌, map, true, false, Some, None, Err};
 ghost use Rattle.std.specs.Prelude.{IfOk, IfErr, OnOk, OnErr};
-ghost use Rattle.gate_log.specs.declared.fault.LogFault.TheVariants as log;
-ghost use Rattle.repo_core.specs.Repository.{props_at};
-ghost use Rattle.repo_core.specs.declared.fault.RepoFault.TheVariants as core;
-ghost use Rattle.repo_store.specs.Words.{identity_of, repository_of, revisions_of, IsKept};
-ghost use Rattle.repo_store.specs.declared.fault.StoreFault.TheVariants as fault;
-ghost use Rattle.store_share.specs.Row.{cells_in, rev_at};
-ghost use Rattle.store_share.specs.declared.rev.Rev.{Rev as RevOf};
-ghost use Rattle.store_share.specs.Book.{head_of, store_of};
-ghost use Rattle.store_share.specs.Seats.{known_by, seen_by};
+ghost use Rattle.repo_store.specs.Words.{identity_of, repository_of, IsKept};
+ghost use Rattle.store_share.specs.Row.{cells_in};
+ghost use Rattle.store_share.specs.Book.{head_of, repo_of, store_of, GivesProps, IsAtLeast, IsOneOf, IsFetchFault};
+ghost use Rattle.store_share.specs.Book.{KnowsShown, ShowsNewest};
+ghost use Rattle.store_share.specs.Seats.{seen_by, KeepsFound, KeepsSeen};
 ghost use Rattle.sync_core.specs.Calls.{call_of};
 ghost use Rattle.sync_core.specs.Copies.{call_in};
 ghost use Rattle.sync_core.specs.Plans.{IsToWrite};
@@ -17,7 +13,7 @@ ghost use Rattle.sync_job.specs.Fronts.{replayed};
 ghost use Rattle.sync_job.specs.Mirrors.{IsFit, mirror_in};
 ghost use Rattle.mirror_share.specs.Acceptable.{may_all_come};
 ghost use Rattle.mirror_share.specs.Facts.{replay_prop};
-ghost use Rattle.mirror_share.specs.Places.{job_at, IsEntryFault};
+ghost use Rattle.mirror_share.specs.Places.{job_at, IsEntryFault, JobsStay, OthersStay, RunsNowhere};
 ghost use Rattle.mirror_share.specs.Refused.{IsRefusalOf};
 
 use crate::entries::take;
@@ -48,15 +44,15 @@ pub(crate) struct CallBook<L: RowName, D: Disk> {
 }
 
 impl<L: RowName, D: Disk> CallBook<L, D> {
-    ghost use Rattle.mirror_share.specs.Book.{calls_of, holder_of, is_stuck_in, jobs_of, master_of, now_of, opening_of};
-    ghost use Rattle.mirror_share.specs.Book.{store_in};
+    ghost use Rattle.mirror_share.specs.Book.{holder_of, is_stuck_in, jobs_of, master_of, now_of, store_in, BeginsAt};
+    ghost use Rattle.mirror_share.specs.Book.{HasNobody, KeepsHolder, KeepsJobs, StandsStill};
     ghost use Rattle.mirror_share.specs.Stepped.{IsWhole, Stepped};
 
     /// The book of a mirror that is opened, at which nobody runs.
     pub(crate) fn open(alloc: Global, book: MasterBook<L, D>) -> CallBook<L, D>
         ensures book { master_of result ≡ book }
-        ensures opening { (opening_of result ≡ repository_of (store_of book)) × (calls_of result ≡ []) }
-        ensures nobody { (holder_of result ≡ None) × ((i : ℕ) → job_at (jobs_of result) i ≡ None) }
+        ensures opening { BeginsAt (repo_of book) result }
+        ensures nobody { HasNobody result }
     {
         let opening = Snapshot::of(book.repo());
         CallBook {
@@ -87,8 +83,7 @@ impl<L: RowName, D: Disk> CallBook<L, D> {
     /// The repository, as the calls so far have left it.
     pub(crate) fn repo(&self) -> &Repo
         ensures value { result.now ≡ repository_of (store_in self.now) }
-        ensures newest { is_stuck_in self.now ≡ false
-            → head_of (master_of self.now) + 1 ≡ length (revisions_of (store_in self.now)) }
+        ensures newest { is_stuck_in self.now ≡ false → ShowsNewest (master_of self.now) }
     {
         self.book.repo()
     }
@@ -116,14 +111,13 @@ impl<L: RowName, D: Disk> CallBook<L, D> {
 
     /// A place for the job of that token. HolderRunning (55) where a job of that token runs, OutOfMemory (70).
     pub(crate) fn enter_job(&mut self, alloc: Global, token: &Token) -> Result<usize, SyncFault>
-        ensures alone { IfOk result (λ _. (i : ℕ) → job_at (jobs_of self.old) i ≡ Some token.now → ⊥) }
+        ensures alone { IfOk result (λ _. RunsNowhere (jobs_of self.old) token.now) }
         ensures free { IfOk result (λ i. job_at (jobs_of self.old) i ≡ None) }
         ensures there { IfOk result (λ i. job_at (jobs_of self.new) i ≡ Some token.now) }
-        ensures others { IfOk result (λ i. (j : ℕ) → (j ≡ i → ⊥) → job_at (jobs_of self.new) j ≡ job_at (jobs_of self.old) j) }
+        ensures others { IfOk result (λ i. OthersStay i (jobs_of self.old) (jobs_of self.new)) }
         ensures refused { IfErr result (IsEntryFault (jobs_of self.old) token.now) }
-        ensures kept { OnErr result ((j : ℕ) → job_at (jobs_of self.new) j ≡ job_at (jobs_of self.old) j) }
-        ensures same { (master_of self.new ≡ master_of self.old) × (holder_of self.new ≡ holder_of self.old)
-            × (calls_of self.new ≡ calls_of self.old) × (opening_of self.new ≡ opening_of self.old) }
+        ensures kept { OnErr result (JobsStay (jobs_of self.old) (jobs_of self.new)) }
+        ensures same { KeepsHolder self.old self.new }
     {
         self.jobs.enter(alloc, token)
     }
@@ -131,9 +125,8 @@ impl<L: RowName, D: Disk> CallBook<L, D> {
     /// The job at a place leaves: the place is free.
     pub(crate) fn leave(&mut self, place: usize)
         ensures left { job_at (jobs_of self.new) place ≡ None }
-        ensures others { (j : ℕ) → (j ≡ place → ⊥) → job_at (jobs_of self.new) j ≡ job_at (jobs_of self.old) j }
-        ensures same { (master_of self.new ≡ master_of self.old) × (holder_of self.new ≡ holder_of self.old)
-            × (calls_of self.new ≡ calls_of self.old) × (opening_of self.new ≡ opening_of self.old) }
+        ensures others { OthersStay place (jobs_of self.old) (jobs_of self.new) }
+        ensures same { KeepsHolder self.old self.new }
     {
         self.jobs.leave(place);
     }
@@ -141,8 +134,7 @@ impl<L: RowName, D: Disk> CallBook<L, D> {
     /// There is no holder from then on, and the lock stays.
     pub(crate) fn let_go(&mut self)
         ensures holder { holder_of self.new ≡ None }
-        ensures same { (master_of self.new ≡ master_of self.old) × (calls_of self.new ≡ calls_of self.old)
-            × (opening_of self.new ≡ opening_of self.old) × (jobs_of self.new ≡ jobs_of self.old) }
+        ensures same { KeepsJobs self.old self.new }
     {
         self.holder = None;
     }
@@ -191,15 +183,13 @@ impl<L: RowName, D: Disk> CallBook<L, D> {
 
     /// The newest revision that the reader has seen, or that the book shows; the reader has seen it then.
     pub(crate) fn latest(&mut self, reader: &mut ReaderSeat<L>) -> RevNo
-        ensures most { (seen_by reader.old ≤ result) × (head_of (master_of self.old) ≤ result) }
-        ensures one { (result ≡ seen_by reader.old) ⊎ (result ≡ head_of (master_of self.old)) }
+        ensures most { IsAtLeast reader.old (master_of self.old) result }
+        ensures one { IsOneOf reader.old (master_of self.old) result }
         ensures seen { seen_by reader.new ≡ result }
-        ensures known { (r : ℕ) → r ≤ head_of (master_of self.old)
-            → known_by reader.new r ≡ rev_at (repository_of (store_in self.old)) r }
-        ensures kept { (r : ℕ) → r ≤ seen_by reader.old → known_by reader.new r ≡ known_by reader.old r }
-        ensures found { (r : ℕ) (x : RevOf) → known_by reader.old r ≡ Some x → known_by reader.new r ≡ Some x }
-        ensures same { (store_in self.new ≡ store_in self.old) × (holder_of self.new ≡ holder_of self.old)
-            × (is_stuck_in self.new ≡ is_stuck_in self.old) × (calls_of self.new ≡ calls_of self.old) }
+        ensures known { KnowsShown (master_of self.old) reader.new }
+        ensures kept { KeepsSeen reader.old reader.new }
+        ensures found { KeepsFound reader.old reader.new }
+        ensures same { StandsStill self.old self.new }
         ensures safe { IsKept (store_in self.old) }
     {
         let _ = self.book.repo();
@@ -210,10 +200,8 @@ impl<L: RowName, D: Disk> CallBook<L, D> {
     pub(crate) fn seat_reader(&mut self, notes: RowNotes) -> ReaderSeat<L>
         requires { cells_in notes ≡ L.cells }
         ensures seen { seen_by result ≡ head_of (master_of self.old) }
-        ensures known { (r : ℕ) → r ≤ head_of (master_of self.old)
-            → known_by result r ≡ rev_at (repository_of (store_in self.old)) r }
-        ensures same { (store_in self.new ≡ store_in self.old) × (holder_of self.new ≡ holder_of self.old)
-            × (is_stuck_in self.new ≡ is_stuck_in self.old) × (calls_of self.new ≡ calls_of self.old) }
+        ensures known { KnowsShown (master_of self.old) result }
+        ensures same { StandsStill self.old self.new }
         ensures safe { IsKept (store_in self.old) }
     {
         let _ = self.book.repo();
@@ -222,10 +210,8 @@ impl<L: RowName, D: Disk> CallBook<L, D> {
 
     /// The properties that a revision has now. NoSuchRevision (21) above the head, OutOfMemory (70).
     pub(crate) fn rev_props(&self, number: RevNo) -> Result<Props, StoreFault>
-        ensures props { IfOk result (λ p. (number ≤ head_of (master_of self.now))
-            × (p ≡ props_at (revisions_of (store_in self.now)) number)) }
-        ensures refused { IfErr result (λ e. ((e ≡ fault.Repo core.NoSuchRevision)
-            × (head_of (master_of self.now) < number)) ⊎ (e ≡ fault.Log log.OutOfMemory)) }
+        ensures props { IfOk result (GivesProps (master_of self.now) number) }
+        ensures refused { IfErr result (IsFetchFault (master_of self.now) number) }
     {
         self.book.fetch_props(number)
     }

@@ -1,15 +1,15 @@
 //! Steps of a mirror's book and of its ledgers: who holds the lock has the hand.
-ghost use Rattle.std.specs.Prelude.{◌≡◌, ◌⊎◌, ℕ, true, false, Some, None, is_some, is_none, IfOk, IfErr, IsErr, ◌+◌};
+ghost use Rattle.std.specs.Prelude.{◌≡◌, ◌⊎◌, true, false, Some, None, is_some, is_none, IfOk, IfErr, IsErr, ◌+◌};
 ghost use Rattle.std.specs.Option.{option_map, option_map_or};
 ghost use Rattle.sync_core.specs.Calls.{call_of};
 ghost use Rattle.sync_core.specs.Holding.{TakesLock};
 ghost use Rattle.sync_core.specs.Mirror.{holds, standing_of};
 ghost use Rattle.sync_job.specs.Mirrors.{IsFit, mirror_in};
-ghost use Rattle.mirror_share.specs.Book.{calls_of, holder_of, is_stuck_in, jobs_of, master_of, now_of, opening_of};
-ghost use Rattle.mirror_share.specs.Carried.{HasHand, IsCarried};
-ghost use Rattle.mirror_share.specs.Places.{job_at};
+ghost use Rattle.mirror_share.specs.Book.{holder_of, is_stuck_in, jobs_of, now_of, KeepsCalls, ReleasesBy};
+ghost use Rattle.mirror_share.specs.Carried.{HasHand};
+ghost use Rattle.mirror_share.specs.Places.{job_at, OthersStay};
 ghost use Rattle.mirror_share.specs.Refused.{IsRefusalOf};
-ghost use Rattle.mirror_share.specs.Seats.{counts_in, hand_of, place_of};
+ghost use Rattle.mirror_share.specs.Seats.{counts_in, place_of, CarriesHand};
 ghost use Rattle.mirror_share.specs.Stepped.{Stepped};
 ghost use Rattle.mirror_share.specs.Words.{counted_in, IsCountedIn, IsKeptIn, IsLockedIn};
 
@@ -160,7 +160,7 @@ pub(crate) fn step_of<L: MirrorName, D: Disk>(
     ensures fits { IfOk result (IsFit (call_of call.now)) }
     ensures refused { IfErr result (IsRefusalOf (call_of call.now)) }
     ensures seat { place_of seat.new ≡ place_of seat.old }
-    ensures carried { IsCarried (hand_of seat.old) (hand_of seat.new) (call_of call.now) result }
+    ensures carried { CarriesHand seat.old seat.new (call_of call.now) result }
 {
     let _head = book.repo().head();
     let JobSeat { place, hand } = seat;
@@ -188,10 +188,9 @@ pub(crate) fn leave_of<L: MirrorName, D: Disk>(
     requires kept { IsKeptIn book.old ledgers.old spare.old }
     ensures kept { IsKeptIn book.new ledgers.new spare.new }
     ensures left { job_at (jobs_of book.new) (place_of seat) ≡ None }
-    ensures holder { holder_of book.new ≡ option_map_or (λ _. None) (hand_of seat) (holder_of book.old) }
-    ensures others { (j : ℕ) → (j ≡ place_of seat → ⊥) → job_at (jobs_of book.new) j ≡ job_at (jobs_of book.old) j }
-    ensures same { (master_of book.new ≡ master_of book.old) × (calls_of book.new ≡ calls_of book.old)
-        × (opening_of book.new ≡ opening_of book.old) }
+    ensures holder { ReleasesBy seat book.old book.new }
+    ensures others { OthersStay (place_of seat) (jobs_of book.old) (jobs_of book.new) }
+    ensures same { KeepsCalls book.old book.new }
 {
     let JobSeat { place, hand } = seat;
     if let Some(own) = hand {

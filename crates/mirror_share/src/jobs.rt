@@ -1,7 +1,7 @@
 //! The jobs that run at a mirror.
-ghost use Rattle.std.specs.Prelude.{◌≡◌, ◌≢◌, ℕ, [], true, false, Some, None, IfOk, IfErr, IfSome, IfNone, OnErr};
+ghost use Rattle.std.specs.Prelude.{◌≡◌, ◌≢◌, [], true, false, Some, None, IfOk, IfErr, IfSome, IfNone, OnErr};
 ghost use Rattle.std.specs.Prelude.{slice_get};
-ghost use Rattle.mirror_share.specs.Places.{job_at, IsEntryFault, IsRunningFault};
+ghost use Rattle.mirror_share.specs.Places.{job_at, IsEntryFault, IsRunningFault, JobsStay, OthersStay, RunsNowhere};
 
 use std::alloc::{AllocError, Global};
 use sync_core::{LockToken, SyncFault, Token};
@@ -27,13 +27,12 @@ impl RunningJobs {
     /// A place for the job of that token, at which nobody was. HolderRunning (55) where a job of that token runs,
     /// OutOfMemory (70).
     pub(crate) fn enter(&mut self, alloc: Global, token: &Token) -> Result<usize, SyncFault>
-        ensures alone { IfOk result (λ _. (i : ℕ) → job_at (places_of self.old) i ≢ Some token.now) }
+        ensures alone { IfOk result (λ _. RunsNowhere (places_of self.old) token.now) }
         ensures free { IfOk result (λ i. job_at (places_of self.old) i ≡ None) }
         ensures there { IfOk result (λ i. job_at (places_of self.new) i ≡ Some token.now) }
-        ensures others { IfOk result (λ i. (j : ℕ) → j ≢ i
-            → job_at (places_of self.new) j ≡ job_at (places_of self.old) j) }
+        ensures others { IfOk result (λ i. OthersStay i (places_of self.old) (places_of self.new)) }
         ensures refused { IfErr result (IsEntryFault (places_of self.old) token.now) }
-        ensures same { OnErr result ((j : ℕ) → job_at (places_of self.new) j ≡ job_at (places_of self.old) j) }
+        ensures same { OnErr result (JobsStay (places_of self.old) (places_of self.new)) }
     {
         if place_of(self.places.as_slice(), token).is_some() {
             return Err(running(alloc, token));
@@ -47,7 +46,7 @@ impl RunningJobs {
     /// The job at that place leaves.
     pub(crate) fn leave(&mut self, place: usize)
         ensures left { job_at (places_of self.new) place ≡ None }
-        ensures others { (j : ℕ) → j ≢ place → job_at (places_of self.new) j ≡ job_at (places_of self.old) j }
+        ensures others { OthersStay place (places_of self.old) (places_of self.new) }
     {
         if place < self.places.len() {
             self.places[place] = None;
@@ -58,7 +57,7 @@ impl RunningJobs {
     fn free_place(&mut self) -> Result<usize, AllocError>
         ensures there { IfOk result (λ i. slice_get (places_of self.new) i ≡ Some None) }
         ensures free { IfOk result (λ i. job_at (places_of self.old) i ≡ None) }
-        ensures same { (j : ℕ) → job_at (places_of self.new) j ≡ job_at (places_of self.old) j }
+        ensures same { JobsStay (places_of self.old) (places_of self.new) }
     {
         match first_free(self.places.as_slice()) {
             Some(place) => Ok(place),
@@ -86,7 +85,7 @@ fn first_free(places: &[Option<Token>]) -> Option<usize>
 // The place of the job of that token.
 fn place_of(places: &[Option<Token>], token: &Token) -> Option<usize>
     ensures found { IfSome result (λ i. job_at places.now i ≡ Some token.now) }
-    ensures none { IfNone result ((i : ℕ) → job_at places.now i ≢ Some token.now) }
+    ensures none { IfNone result (RunsNowhere places.now token.now) }
 {
     for i in 0..places.len() {
         if is_of(&places[i], token) {

@@ -1,6 +1,6 @@
 //! Setting what a ledger counts, by who has its whole share.
 ghost use Rattle.std.specs.Prelude.{◌≡◌, ◌<◌};
-ghost use Rattle.mirror_share.specs.Counts.{count_of, holder_count};
+ghost use Rattle.mirror_share.specs.Counts.{count_of, holder_count, CountsAs};
 
 use node_base::RevNo;
 use std::sync::ledger::{Book, Ledger, Share};
@@ -27,8 +27,8 @@ pub(crate) fn set_number<L: Ledger>(
 /// Counts a number, where nothing is counted.
 pub(crate) fn put_number<L: Ledger>(book: &mut Book<L>, share: &mut Share<L>, new: Number)
     requires some { 0 < share.old.parts }
-    requires total { (book.old.total ≡ 0) × (share.old.amount ≡ 0) }
-    ensures total { (book.new.total ≡ count_of new) × (share.new.amount ≡ count_of new) }
+    requires total { CountsAs 0 book.old.total share.old.amount }
+    ensures total { CountsAs (count_of new) book.new.total share.new.amount }
     ensures parts { share.new.parts ≡ share.old.parts }
 {
     match new {
@@ -43,8 +43,8 @@ pub(crate) fn put_number<L: Ledger>(book: &mut Book<L>, share: &mut Share<L>, ne
 }
 
 fn take_number<L: Ledger>(book: &mut Book<L>, share: &mut Share<L>, old: Number)
-    requires total { (book.old.total ≡ count_of old) × (share.old.amount ≡ count_of old) }
-    ensures total { (book.new.total ≡ 0) × (share.new.amount ≡ 0) }
+    requires total { CountsAs (count_of old) book.old.total share.old.amount }
+    ensures total { CountsAs 0 book.new.total share.new.amount }
     ensures parts { share.new.parts ≡ share.old.parts }
 {
     match old {
@@ -96,8 +96,8 @@ pub(crate) fn set_holder<L: Ledger>(
 }
 
 fn take_holder<L: Ledger>(book: &mut Book<L>, share: &mut Share<L>, old: Option<Seat>)
-    requires total { (book.old.total ≡ holder_count old) × (share.old.amount ≡ holder_count old) }
-    ensures total { (book.new.total ≡ 0) × (share.new.amount ≡ 0) }
+    requires total { CountsAs (holder_count old) book.old.total share.old.amount }
+    ensures total { CountsAs 0 book.new.total share.new.amount }
     ensures parts { share.new.parts ≡ share.old.parts }
 {
     match old {

@@ -1,6 +1,6 @@
 //! The ledgers of a mirror's numbers and of its holder.
 ghost use Rattle.std.specs.Prelude.{◌≡◌};
-ghost use Rattle.mirror_share.specs.Counts.{count_of, holder_count};
+ghost use Rattle.mirror_share.specs.Counts.{count_of, holder_count, CountsAs, IsAudited};
 
 use crate::blanks::Blanks;
 use crate::hand::Hand;
@@ -60,14 +60,13 @@ impl<L: MirrorName> Ledgers<L> {
 
     /// What the hand counts is what is counted.
     pub(crate) fn audit(&mut self, hand: &mut Hand<L>)
-        ensures merged { (hand.old.merged.amount ≡ self.old.merged.total) × (hand.new.merged.amount ≡ hand.old.merged.amount)
-            × (self.new.merged.total ≡ self.old.merged.total) }
-        ensures copying { (hand.old.copying.amount ≡ self.old.copying.total)
-            × (hand.new.copying.amount ≡ hand.old.copying.amount) × (self.new.copying.total ≡ self.old.copying.total) }
-        ensures head { (hand.old.head.amount ≡ self.old.head.total) × (hand.new.head.amount ≡ hand.old.head.amount)
-            × (self.new.head.total ≡ self.old.head.total) }
-        ensures holder { (hand.old.holder.amount ≡ self.old.holder.total) × (hand.new.holder.amount ≡ hand.old.holder.amount)
-            × (self.new.holder.total ≡ self.old.holder.total) }
+        ensures merged { IsAudited self.old.merged.total hand.old.merged.amount self.new.merged.total
+            hand.new.merged.amount }
+        ensures copying { IsAudited self.old.copying.total hand.old.copying.amount self.new.copying.total
+            hand.new.copying.amount }
+        ensures head { IsAudited self.old.head.total hand.old.head.amount self.new.head.total hand.new.head.amount }
+        ensures holder { IsAudited self.old.holder.total hand.old.holder.amount self.new.holder.total
+            hand.new.holder.amount }
     {
         self.merged.audit(&mut hand.merged);
         self.copying.audit(&mut hand.copying);
@@ -80,10 +79,9 @@ impl<L: MirrorName> Ledgers<L> {
         requires merged { self.old.merged.total ≡ count_of old.merged }
         requires copying { self.old.copying.total ≡ count_of old.copying }
         requires head { self.old.head.total ≡ old.head }
-        ensures merged { (self.new.merged.total ≡ count_of new.merged) × (hand.new.merged.amount ≡ count_of new.merged) }
-        ensures copying { (self.new.copying.total ≡ count_of new.copying)
-            × (hand.new.copying.amount ≡ count_of new.copying) }
-        ensures head { (self.new.head.total ≡ new.head) × (hand.new.head.amount ≡ new.head) }
+        ensures merged { CountsAs (count_of new.merged) self.new.merged.total hand.new.merged.amount }
+        ensures copying { CountsAs (count_of new.copying) self.new.copying.total hand.new.copying.amount }
+        ensures head { CountsAs new.head self.new.head.total hand.new.head.amount }
         ensures holder { (self.new.holder.total ≡ self.old.holder.total)
             × (hand.new.holder.amount ≡ hand.old.holder.amount) }
     {
@@ -104,7 +102,7 @@ impl<L: MirrorName> Ledgers<L> {
         ensures copying { (self.new.copying.total ≡ self.old.copying.total)
             × (hand.new.copying.amount ≡ hand.old.copying.amount) }
         ensures head { (self.new.head.total ≡ self.old.head.total) × (hand.new.head.amount ≡ hand.old.head.amount) }
-        ensures holder { (self.new.holder.total ≡ holder_count new) × (hand.new.holder.amount ≡ holder_count new) }
+        ensures holder { CountsAs (holder_count new) self.new.holder.total hand.new.holder.amount }
     {
         set_holder(&mut self.holder, &mut hand.holder, old, new);
     }

@@ -1,10 +1,8 @@
 //! An opened mirror, which has no name yet.
-ghost use Rattle.std.specs.Prelude.{◌≡◌, ℕ, [], None, false, IfOk, IfErr};
+ghost use Rattle.std.specs.Prelude.{◌≡◌, false, IfOk, IfErr};
 ghost use Rattle.repo_store.specs.Words.{repository_of};
 ghost use Rattle.store_share.specs.Opened.{store_in};
-ghost use Rattle.mirror_share.specs.Book.{calls_of, holder_of, is_stuck_in, jobs_of, opening_of};
-ghost use Rattle.mirror_share.specs.Book.{store_in as store_of};
-ghost use Rattle.mirror_share.specs.Places.{job_at};
+ghost use Rattle.mirror_share.specs.Book.{is_stuck_in, store_in as store_of, BeginsAt, HasNobody};
 ghost use Rattle.mirror_share.specs.Words.{mirror_of};
 
 use crate::blanks::Blanks;
@@ -56,10 +54,8 @@ impl<D: Disk> OpenedMirror<D> {
         requires { IsNamed self L.cells L.merged L.copying L.head L.holder }
         ensures book { (store_of (mirror_of result.0) ≡ store_in (opened_in self))
             × (is_stuck_in (mirror_of result.0) ≡ false) }
-        ensures opening { (opening_of (mirror_of result.0) ≡ repository_of (store_in (opened_in self)))
-            × (calls_of (mirror_of result.0) ≡ []) }
-        ensures nobody { (holder_of (mirror_of result.0) ≡ None)
-            × ((i : ℕ) → job_at (jobs_of (mirror_of result.0)) i ≡ None) }
+        ensures opening { BeginsAt (repository_of (store_in (opened_in self))) (mirror_of result.0) }
+        ensures nobody { HasNobody (mirror_of result.0) }
         ensures row { result.1 ≡ L.cells }
     {
         let OpenedMirror { opened, blanks } = self;

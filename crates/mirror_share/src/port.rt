@@ -1,19 +1,14 @@
 //! A shared mirror as the port of a job.
-ghost use Rattle.std.specs.Prelude.{◌≡◌, ◌≤◌, ◌↔◌, ◌++◌, ◌∷◌, [], ℕ, List, length, None, Some, IfOk, IfErr};
+ghost use Rattle.std.specs.Prelude.{◌≡◌, ◌↔◌, ◌++◌, ◌∷◌, [], length, None, Some, IfOk, IfErr};
 ghost use Rattle.std.specs.Prelude.{IfSome, OnOk};
 ghost use Rattle.std.specs.Option.{option_map};
-ghost use Rattle.node_base.specs.Tree.{PathMap};
-ghost use Rattle.node_base.specs.declared.refusal.Refusal.TheVariants as refusal;
-ghost use Rattle.repo_core.specs.Repository.{tree_at};
-ghost use Rattle.store_share.specs.Seats.{known_by, seen_by};
+ghost use Rattle.store_share.specs.Seats.{known_by, seen_by, KeepsSeen, SeesOn};
 ghost use Rattle.sync_core.specs.Calls.{call_of};
-ghost use Rattle.sync_core.specs.declared.fault.SyncFault.TheVariants as fault;
-ghost use Rattle.sync_job.specs.Asked.{Asked, asked_as};
-ghost use Rattle.sync_job.specs.Mirrors.{MirrorNow, IsFit, Moves, Stays};
+ghost use Rattle.sync_job.specs.Asked.{asked_as};
+ghost use Rattle.sync_job.specs.Mirrors.{GivesTree, IsFit, LacksTree, Moves, Stays};
 ghost use Rattle.sync_job.specs.Telling.{IsTreeFault};
-ghost use Rattle.mirror_share.specs.Carried.{IsCarried};
 ghost use Rattle.mirror_share.specs.Refused.{IsRefusalOf};
-ghost use Rattle.mirror_share.specs.Seen.{HasSeenCommit, HasSeenHead};
+ghost use Rattle.mirror_share.specs.Seen.{HasSeenCall, HasSeenHead};
 
 use crate::name::MirrorName;
 use crate::seat::JobSeat;
@@ -80,10 +75,10 @@ impl<'a, R: Wait, L: MirrorName, D: Disk> SeatMirror<'a, R, L, D> {
 }
 
 impl<R: Wait, L: MirrorName, D: Disk> MirrorPort for SeatMirror<'_, R, L, D> {
-    ghost use Rattle.std.specs.Prelude.{ℕ};
     ghost use Rattle.mirror_share.specs.Locked.{IsStepOf};
-    ghost use Rattle.mirror_share.specs.Ports.{reader_of, seat_of, share_of, NowhereStands, TellsNothing, WasAsked};
-    ghost use Rattle.mirror_share.specs.Seats.{hand_of, place_of};
+    ghost use Rattle.mirror_share.specs.Ports.{reader_of, seat_of, share_of, IsAsked, IsUnasked, NowhereStands};
+    ghost use Rattle.mirror_share.specs.Ports.{OfNowhere, OfUntold, TellsNothing, WasAsked};
+    ghost use Rattle.mirror_share.specs.Seats.{place_of, CarriesHand};
 
     ghost stands = { λ _ m. NowhereStands m };
 
@@ -116,21 +111,18 @@ impl<R: Wait, L: MirrorName, D: Disk> MirrorPort for SeatMirror<'_, R, L, D> {
         ensures fits { IfOk result (IsFit (call_of call.now)) }
         ensures refused { IfErr result (IsRefusalOf (call_of call.now)) }
         ensures stepped { IsStepOf (share_of self.old) (place_of (seat_of self.old)) (call_of call.now) result }
-        ensures carried { IsCarried (hand_of (seat_of self.old)) (hand_of (seat_of self.new)) (call_of call.now) result }
-        ensures commit { OnOk result (HasSeenCommit (call_of call.now) (known_by (reader_of self.new))
-            (seen_by (reader_of self.new))) }
+        ensures carried { CarriesHand (seat_of self.old) (seat_of self.new) (call_of call.now) result }
+        ensures commit { OnOk result (HasSeenCall (reader_of self.new) (call_of call.now)) }
         ensures head { IfOk result (λ r. HasSeenHead r (seen_by (reader_of self.new))) }
-        ensures seen { seen_by (reader_of self.old) ≤ seen_by (reader_of self.new) }
-        ensures kept { (r : ℕ) → r ≤ seen_by (reader_of self.old)
-            → known_by (reader_of self.new) r ≡ known_by (reader_of self.old) r }
+        ensures seen { SeesOn (reader_of self.old) (reader_of self.new) }
+        ensures kept { KeepsSeen (reader_of self.old) (reader_of self.new) }
         ensures share { share_of self.new ≡ share_of self.old }
         ensures seat { place_of (seat_of self.new) ≡ place_of (seat_of self.old) }
         ensures honest { ⊥ ↔ ⊥ }
-        ensures moves { (m : MirrorNow) → NowhereStands m → Moves NowhereStands (λ _. 0) (λ _ _ _. ⊥) ⊥ self.old self.new
-            m (place_of (seat_of self.old)) (call_of call.now) result }
-        ensures asked { (first : _) (calls : List Asked) → WasAsked self.old first calls
-            → WasAsked self.new first (calls ++ asked_as (call_of call.now) result ∷ []) }
-        ensures first { (trees : List PathMap) → TellsNothing trees → TellsNothing trees }
+        ensures moves { OfNowhere (λ m. Moves NowhereStands (λ _. 0) (λ _ _ _. ⊥) ⊥ self.old self.new m
+            (place_of (seat_of self.old)) (call_of call.now) result) }
+        ensures asked { IsAsked self.old (asked_as (call_of call.now) result) self.new }
+        ensures first { OfUntold TellsNothing }
     {
         self.share
             .step_by(self.rt, alloc, &mut self.seat, &mut self.reader, call)
@@ -140,24 +132,18 @@ impl<R: Wait, L: MirrorName, D: Disk> MirrorPort for SeatMirror<'_, R, L, D> {
     /// hasn't seen it. NoSuchRevision (21) where nothing is shown there, OutOfMemory (70).
     fn tree(&mut self, number: RevNo) -> Result<Tree, SyncFault>
         ensures known { IfOk result (λ t. option_map (λ x. x.tree) (known_by (reader_of self.new) number) ≡ Some t) }
-        ensures seen { seen_by (reader_of self.old) ≤ seen_by (reader_of self.new) }
-        ensures kept { (r : ℕ) → r ≤ seen_by (reader_of self.old)
-            → known_by (reader_of self.new) r ≡ known_by (reader_of self.old) r }
+        ensures seen { SeesOn (reader_of self.old) (reader_of self.new) }
+        ensures kept { KeepsSeen (reader_of self.old) (reader_of self.new) }
         ensures refused { IfErr result IsTreeFault }
         ensures hand { seat_of self.new ≡ seat_of self.old }
-        ensures absent { (m : MirrorNow) → NowhereStands m → IfErr result
-            (λ f. f ≡ fault.Other refusal.NoSuchRevision → tree_at m.repository.revisions number ≡ None) }
+        ensures absent { LacksTree NowhereStands number result }
         ensures seat { place_of (seat_of self.new) ≡ place_of (seat_of self.old) }
         ensures honest { ⊥ ↔ ⊥ }
-        ensures tree { (m : MirrorNow) → NowhereStands m → IfOk result
-            (λ t. tree_at m.repository.revisions number ≡ Some t) }
-        ensures stays { (m : MirrorNow) → NowhereStands m → Stays NowhereStands (λ _. 0) (λ _ _ _. ⊥) ⊥ self.old self.new
-            m }
-        ensures asked { (first : _) (calls : List Asked) → WasAsked self.old first calls
-            → WasAsked self.new first calls }
-        ensures first { (trees : List PathMap) → TellsNothing trees → TellsNothing trees }
-        ensures next { (trees : List PathMap) → TellsNothing trees → number ≡ length trees → IfOk result
-            (λ t. TellsNothing (trees ++ t ∷ [])) }
+        ensures tree { GivesTree NowhereStands number result }
+        ensures stays { OfNowhere (Stays NowhereStands (λ _. 0) (λ _ _ _. ⊥) ⊥ self.old self.new) }
+        ensures asked { IsUnasked self.old self.new }
+        ensures first { OfUntold TellsNothing }
+        ensures next { OfUntold (λ trees. number ≡ length trees → IfOk result (λ t. TellsNothing (trees ++ t ∷ []))) }
     {
         match found(self.rt, self.share, &mut self.reader, number) {
             Some(rev) => match rev.tree.share() {
@@ -177,8 +163,8 @@ fn found<'a, R: Wait, L: MirrorName, D: Disk>(
     number: RevNo,
 ) -> Option<&'a Rev>
     ensures known { IfSome result (λ r. known_by reader.new number ≡ Some r.now) }
-    ensures later { seen_by reader.old ≤ seen_by reader.new }
-    ensures kept { (r : ℕ) → r ≤ seen_by reader.old → known_by reader.new r ≡ known_by reader.old r }
+    ensures later { SeesOn reader.old reader.new }
+    ensures kept { KeepsSeen reader.old reader.new }
 {
     if reader.seen() < number {
         let _newest = share.latest(rt, reader);

@@ -1,8 +1,8 @@
 //! Runs of a job at a seat of a shared mirror.
 ghost use Rattle.std.specs.Prelude.{◌≡◌, None};
 ghost use Rattle.sync_core.specs.Jobs.{Sync, CopyProps, begun};
-ghost use Rattle.sync_job.specs.Runs.{IsSyncRun, IsCopyRun};
-ghost use Rattle.sync_job.specs.Words.{calls_of, mirror_of, report_of};
+ghost use Rattle.sync_job.specs.Ports.{RunsCopy, RunsSync};
+ghost use Rattle.sync_job.specs.Words.{calls_of, mirror_of};
 ghost use Rattle.mirror_share.specs.Ports.{seat_of};
 ghost use Rattle.mirror_share.specs.Seats.{hand_of};
 ghost use Rattle.mirror_share.specs.Served.{IsServedIn};
@@ -27,8 +27,7 @@ pub fn run_sync_at<'a, W: Wait, L: MirrorName, D: Disk, M: MasterPort + Drop, R:
     steal: bool,
 ) -> Result<(), SyncFault>
     requires { hand_of (seat_of (mirror_of ports.old)) ≡ None }
-    ensures run { IsSyncRun token steal (calls_of ports.old) (calls_of ports.new) (R.heard (report_of ports.old))
-        (R.heard (report_of ports.new)) result }
+    ensures run { RunsSync R.Report ports.old ports.new token steal result }
     ensures served { IsServedIn (begun (Sync token steal)) (calls_of ports.old) (calls_of ports.new) }
 {
     run_sync(alloc, ports, token, steal)
@@ -51,8 +50,7 @@ pub fn run_copy_revprops_at<
     high: RevNo,
 ) -> Result<(), SyncFault>
     requires { hand_of (seat_of (mirror_of ports.old)) ≡ None }
-    ensures run { IsCopyRun token low high (calls_of ports.old) (calls_of ports.new) (R.heard (report_of ports.old))
-        (R.heard (report_of ports.new)) result }
+    ensures run { RunsCopy R.Report ports.old ports.new token low high result }
     ensures served { IsServedIn (begun (CopyProps token)) (calls_of ports.old) (calls_of ports.new) }
 {
     run_copy_revprops(alloc, ports, token, low, high)

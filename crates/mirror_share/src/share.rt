@@ -1,19 +1,18 @@
 //! A mirror behind its lock, with its row beside it.
-ghost use Rattle.std.specs.Prelude.{◌≡◌, ◌≤◌, ◌⊎◌, ℕ, Some, None, IfOk, IfErr, IfSome, IfNone, IsErr, IsSome, OnOk};
-ghost use Rattle.gate_log.specs.declared.fault.LogFault.TheVariants as log;
+ghost use Rattle.std.specs.Prelude.{◌≡◌, ◌≤◌, None, IfOk, IfErr, IfNone, IsErr, IsSome, OnOk};
 ghost use Rattle.repo_core.specs.declared.fault.RepoFault.TheVariants as core;
 ghost use Rattle.repo_store.specs.declared.fault.StoreFault.TheVariants as fault;
 ghost use Rattle.repo_store.specs.Words.{repository_of};
 ghost use Rattle.store_share.specs.Opened.{store_in};
-ghost use Rattle.store_share.specs.declared.rev.Rev.{Rev as RevOf};
-ghost use Rattle.store_share.specs.Seats.{known_by, seen_by};
+ghost use Rattle.store_share.specs.Seats.{known_by, seen_by, KeepsFound, KeepsSeen, ReadsAs, ReadsSeen, SeesOn};
 ghost use Rattle.sync_core.specs.Calls.{call_of};
 ghost use Rattle.sync_core.specs.Holding.{TakesLock};
 ghost use Rattle.sync_job.specs.Mirrors.{IsFit};
-ghost use Rattle.mirror_share.specs.Carried.{IsCarried};
 ghost use Rattle.mirror_share.specs.Refused.{IsRefusalOf};
-ghost use Rattle.mirror_share.specs.Seats.{hand_of, place_of};
-ghost use Rattle.mirror_share.specs.Seen.{HasSeenCommit, HasSeenHead};
+ghost use Rattle.mirror_share.specs.Seats.{hand_of, place_of, CarriesHand};
+ghost use Rattle.mirror_share.specs.Seen.{HasSeenHead};
+ghost use Rattle.store_share.specs.Row.{ReadsKnown};
+ghost use Rattle.store_share.specs.Locked.{IsUnfetched};
 
 use crate::book::MirrorBook;
 use crate::name::MirrorName;
@@ -40,7 +39,7 @@ impl<L: MirrorName, D: Disk> MirrorShare<L, D> {
     ghost use Rattle.mirror_share.specs.Locked.{row_of, HasIdentity, HasProps, IsAbove, IsEntryOf, IsKeptOut, IsLeaveOf, IsNewest};
     ghost use Rattle.mirror_share.specs.Locked.{IsShownTo, IsStepOf};
     ghost use Rattle.mirror_share.specs.Names.{opened_in, IsNamed};
-    ghost use Rattle.mirror_share.specs.Seen.{HasSeenAll};
+    ghost use Rattle.mirror_share.specs.Seen.{HasSeenAll, HasSeenCall};
     ghost use Rattle.mirror_share.specs.Stepped.{IsWhole};
     ghost use Rattle.mirror_share.specs.Words.{mirror_of, KeepsCounts};
 
@@ -139,7 +138,7 @@ impl<L: MirrorName, D: Disk> MirrorShare<L, D> {
         ensures refused { IfErr result (IsRefusalOf (call_of call.now)) }
         ensures stepped { IsStepOf self.now (place_of seat.old) (call_of call.now) result }
         ensures seat { place_of seat.new ≡ place_of seat.old }
-        ensures carried { IsCarried (hand_of seat.old) (hand_of seat.new) (call_of call.now) result }
+        ensures carried { CarriesHand seat.old seat.new (call_of call.now) result }
     {
         self.book.lock(rt).step(alloc, &self.row, seat, call)
     }
@@ -158,11 +157,11 @@ impl<L: MirrorName, D: Disk> MirrorShare<L, D> {
         ensures refused { IfErr result (IsRefusalOf (call_of call.now)) }
         ensures stepped { IsStepOf self.now (place_of seat.old) (call_of call.now) result }
         ensures seat { place_of seat.new ≡ place_of seat.old }
-        ensures carried { IsCarried (hand_of seat.old) (hand_of seat.new) (call_of call.now) result }
-        ensures commit { OnOk result (HasSeenCommit (call_of call.now) (known_by reader.new) (seen_by reader.new)) }
+        ensures carried { CarriesHand seat.old seat.new (call_of call.now) result }
+        ensures commit { OnOk result (HasSeenCall reader.new (call_of call.now)) }
         ensures head { IfOk result (λ r. HasSeenHead r (seen_by reader.new)) }
-        ensures later { seen_by reader.old ≤ seen_by reader.new }
-        ensures kept { (r : ℕ) → r ≤ seen_by reader.old → known_by reader.new r ≡ known_by reader.old r }
+        ensures later { SeesOn reader.old reader.new }
+        ensures kept { KeepsSeen reader.old reader.new }
     {
         self.book
             .lock(rt)
@@ -200,8 +199,8 @@ impl<L: MirrorName, D: Disk> MirrorShare<L, D> {
     pub fn latest<R: Wait>(&self, rt: &R, reader: &mut ReaderSeat<L>) -> RevNo
         ensures most { seen_by reader.old ≤ result }
         ensures seen { seen_by reader.new ≡ result }
-        ensures kept { (r : ℕ) → r ≤ seen_by reader.old → known_by reader.new r ≡ known_by reader.old r }
-        ensures found { (r : ℕ) (x : RevOf) → known_by reader.old r ≡ Some x → known_by reader.new r ≡ Some x }
+        ensures kept { KeepsSeen reader.old reader.new }
+        ensures found { KeepsFound reader.old reader.new }
         ensures newest { IsNewest self.now (seen_by reader.old) reader.new result }
     {
         self.book.lock(rt).latest(reader)
@@ -211,13 +210,11 @@ impl<L: MirrorName, D: Disk> MirrorShare<L, D> {
     /// no memory. What the reader has seen it reads for good, and so what it was given once.
     pub fn read_at<'a>(&'a self, reader: &mut ReaderSeat<L>, number: RevNo) -> Option<&'a Rev>
         ensures there { number ≤ seen_by reader.old → IfNone result ⊥ }
-        ensures value { (x : RevOf) → number ≤ seen_by reader.old → known_by reader.old number ≡ Some x
-            → IfSome result (λ r. r.now ≡ x) }
-        ensures again { (x : RevOf) → known_by reader.old number ≡ Some x → x.number ≡ number
-            → IfSome result (λ r. r.now ≡ x) × (IfNone result ⊥) }
-        ensures number { IfSome result (λ r. (r.now.number ≡ number) × (known_by reader.new number ≡ Some r.now)) }
+        ensures value { ReadsSeen reader.old number result }
+        ensures again { ReadsKnown (known_by reader.old number) number result }
+        ensures number { ReadsAs reader.new number result }
         ensures seen { seen_by reader.new ≡ seen_by reader.old }
-        ensures kept { (r : ℕ) (x : RevOf) → known_by reader.old r ≡ Some x → known_by reader.new r ≡ Some x }
+        ensures kept { KeepsFound reader.old reader.new }
     {
         reader.read_in(&self.row, number)
     }
@@ -225,7 +222,7 @@ impl<L: MirrorName, D: Disk> MirrorShare<L, D> {
     /// The properties that a revision has now. NoSuchRevision (21) above the head, OutOfMemory (70).
     pub fn rev_props<R: Wait>(&self, rt: &R, number: RevNo) -> Result<Props, StoreFault>
         ensures props { IfOk result (HasProps self.now number) }
-        ensures refused { IfErr result (λ e. (e ≡ fault.Repo core.NoSuchRevision) ⊎ (e ≡ fault.Log log.OutOfMemory)) }
+        ensures refused { IfErr result IsUnfetched }
         ensures above { IfErr result (λ e. e ≡ fault.Repo core.NoSuchRevision → IsAbove self.now number) }
     {
         self.book.lock(rt).rev_props(number)
