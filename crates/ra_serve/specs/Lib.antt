@@ -7,3 +7,4 @@ pub mod Sessions
 pub mod Serving
 pub mod Counted
 pub mod Outputs
+pub mod Clients

@@ -73,3 +73,9 @@ pub record IsReplay (x : Repository) (n : ℕ) (set : List Change) (trees : List
   pub set_is : set ≡ set_of x n
   pub trees_are : trees ≡ take n (trees_of x.revisions)
   pub props_are : props ≡ props_at x.revisions n
+
+-- ---- what a port's call says, by the ghosts of the port
+
+-- the port stays what it is, and its count of refusals doesn't fall
+abbrev pub StaysBy : {P : Type 0} → (P → Option Repository) → (P → ℕ) → (P → Bool) → P → P → Type 0
+StaysBy repository refusals is_mirror old new = Stays (repository old) (repository new) (is_mirror old) (is_mirror new) (refusals old) (refusals new)

@@ -1,5 +1,5 @@
 -- What a session says of its port, its reader and its writer.
-use Rattle.std.specs.Prelude.{◌≡◌, ◌≢◌, ℕ, Bool, true, false, not, List, [], ◌∷◌, ◌++◌, map, Option, Some}
+use Rattle.std.specs.Prelude.{◌≡◌, ◌≢◌, ℕ, Bool, true, false, not, List, [], ◌∷◌, ◌++◌, map, Option, Some, Result, IfOk}
 use Rattle.std.specs.Io.KnownBytes.{Appends}
 use Rattle.ra_item.specs.Items.{Item, spell}
 use Rattle.ra_item.specs.Streams.{Stream}
@@ -10,12 +10,16 @@ use Rattle.ra_item.specs.declared.fault.NextFault.{NextFault}
 use Rattle.ra_item.specs.declared.fault.NextFault.TheVariants as next
 use Rattle.ra_item.specs.declared.stream.ItemStream.{ItemStream}
 use Rattle.byte_streams.specs.Causes.{Counts, RoseBy}
+use Rattle.byte_streams.specs.declared.input.Input.{Ghosts as InputGhosts}
 use Rattle.repo_core.specs.Repository.{Repository}
 use Rattle.ra_wire.specs.Openings.{login_in}
 use Rattle.ra_wire.specs.Replies.{greeting, mechanisms}
 use Rattle.ra_serve.specs.Sessions.{Turn, AllMayHalt, halts, answers, left, identity_text, asked_who, session, commands_of, logs_in, goes_on, ends_opening}
+use Rattle.ra_serve.specs.Outputs.{items_of}
+use Rattle.ra_serve.specs.declared.client.ClientItems.{ClientItems}
 use Rattle.ra_serve.specs.declared.fault.End as declared
 use Rattle.ra_serve.specs.declared.fault.End.TheVariants as end
+use Rattle.ra_serve.specs.declared.port.RepoPort.{Ghosts}
 
 -- behind some items the bytes have a fault, of which no failure of the reader is the cause
 abbrev pub no_failure : Counts
@@ -91,3 +95,16 @@ spelled_login url mirror x ts = spell (mechanisms (identity_text x)) ++ asked_wh
 
 abbrev pub ServesLogin : {P R W : Type 0} {g : _} → (P → Option Repository) → (P → ℕ) → (P → Bool) → (R → Option (List ℕ)) → (W → Option (List ℕ)) → List ℕ → P → P → ItemStream R g → ItemStream R g → W → W → declared.End → Type 0
 ServesLogin repository refusals is_mirror remaining contents url = ServesBy (spelled_login url) behind_one goes_on_login ends_at_login repository refusals is_mirror remaining contents
+
+-- ---- what serving a client answers: the writer, and where the session ended
+
+abbrev pub HoldsSession : {P R O W E : Type 0} {g : InputGhosts R} → Ghosts P → (W → Option (List ℕ)) → P → P → ClientItems R O g → ClientItems R O g → W → List ℕ → Result (W × declared.End) E → Type 0
+HoldsSession {P} {R} {O} {W} {E} {g} G contents old new items items_now out url result = IfOk result (λ r. ServesSession G.repository G.refusals G.is_mirror g.remaining contents url old new (items_of items) (items_of items_now) out r.0 r.1)
+
+-- from the question who the client is
+abbrev pub HoldsLogin : {P R O W E : Type 0} {g : InputGhosts R} → Ghosts P → (W → Option (List ℕ)) → P → P → ClientItems R O g → ClientItems R O g → W → List ℕ → Result (W × declared.End) E → Type 0
+HoldsLogin {P} {R} {O} {W} {E} {g} G contents old new items items_now out url result = IfOk result (λ r. ServesLogin G.repository G.refusals G.is_mirror g.remaining contents url old new (items_of items) (items_of items_now) out r.0 r.1)
+
+-- from the first command
+abbrev pub HoldsCommands : {P R O W E : Type 0} {g : InputGhosts R} → Ghosts P → (W → Option (List ℕ)) → P → P → ClientItems R O g → ClientItems R O g → W → Result (W × declared.End) E → Type 0
+HoldsCommands {P} {R} {O} {W} {E} {g} G contents old new items items_now out result = IfOk result (λ r. ServesCommands G.repository G.refusals G.is_mirror g.remaining contents old new (items_of items) (items_of items_now) out r.0 r.1)

@@ -1,5 +1,5 @@
 -- What the calls that answer say of their port and their writer.
-use Rattle.std.specs.Prelude.{◌≡◌, ◌⊎◌, ℕ, Bool, List, Option, Some}
+use Rattle.std.specs.Prelude.{◌≡◌, ◌⊎◌, ℕ, Bool, List, Option, Some, Result, IfOk}
 use Rattle.std.specs.Io.KnownBytes.{Appends}
 use Rattle.fleet_disk.specs.Rules.{Rose}
 use Rattle.repo_core.specs.Repository.{Repository}
@@ -7,6 +7,8 @@ use Rattle.ra_wire.specs.Commands.{Command}
 use Rattle.ra_wire.specs.Reading.{Reading}
 use Rattle.ra_serve.specs.Answers.{Halt, told, after_told, MayHalt, IsCalm, answer, behind, MayHaltAt}
 use Rattle.ra_serve.specs.Ports.{Goes}
+use Rattle.ra_serve.specs.declared.fault.ServeFault.{ServeFault}
+use Rattle.ra_serve.specs.declared.port.RepoPort.{Ghosts}
 
 -- behind what the writer held stands what a command is told, where the port refused it by itself only if its count rose
 pub record Replied (mirror : Bool) (x : Repository) (c : Command) (rose : Type 0) (before now : Option (List ℕ)) (new : Option Repository) : Type 0 where
@@ -37,3 +39,17 @@ Replies repository refusals is_mirror contents read old new before now =
 -- and the port goes on
 abbrev pub GoesOn : {P : Type 0} → (P → ℕ) → (P → Bool) → P → P → Type 0
 GoesOn refusals is_mirror old new = Goes (is_mirror old) (is_mirror new) (refusals old) (refusals new)
+
+-- ---- what a call answers that gives its writer back
+
+-- these bytes were written behind what the writer had
+abbrev pub Sends : {W E : Type 0} → (W → Option (List ℕ)) → W → List ℕ → Result W E → Type 0
+Sends contents out bytes result = IfOk result (λ w. Appends (contents out) (contents w) bytes)
+
+-- a command was told
+abbrev pub TellsCommand : {P W : Type 0} → Ghosts P → (W → Option (List ℕ)) → P → P → W → Command → Result W ServeFault → Type 0
+TellsCommand G contents old new out c result = IfOk result (Tells G.repository G.refusals G.is_mirror contents c old new out)
+
+-- an item was answered
+abbrev pub RepliesTo : {P W : Type 0} → Ghosts P → (W → Option (List ℕ)) → P → P → W → Reading → Result W ServeFault → Type 0
+RepliesTo G contents old new out read result = IfOk result (Replies G.repository G.refusals G.is_mirror contents read old new out)

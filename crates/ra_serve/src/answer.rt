@@ -1,8 +1,7 @@
 //! One command and its answer.
 
-ghost use Rattle.std.specs.Prelude.{◌≡◌, Some, IfOk};
+ghost use Rattle.std.specs.Prelude.{◌≡◌, Some};
 ghost use Rattle.std.specs.Option.{option_copied, option_map};
-ghost use Rattle.std.specs.Io.KnownBytes.{Appends};
 ghost use Rattle.std.specs.FinMap as finite;
 ghost use Rattle.node_base.specs.Tree.{kind_of};
 ghost use Rattle.repo_core.specs.Refusals.{wanted};
@@ -12,7 +11,7 @@ ghost use Rattle.ra_wire.specs.Commands.{ChangeProp};
 ghost use Rattle.ra_wire.specs.Reading.{command_in};
 ghost use Rattle.ra_wire.specs.Replies.{authorised};
 ghost use Rattle.ra_serve.specs.Answers.{wanted_of};
-ghost use Rattle.ra_serve.specs.Tellings.{Tells, Replies, GoesOn};
+ghost use Rattle.ra_serve.specs.Tellings.{GoesOn, Sends, TellsCommand, RepliesTo};
 
 use crate::ask::{change_asked, props_asked, tree_asked};
 use crate::browse::{get_dir, get_file};
@@ -39,8 +38,7 @@ pub fn answer<P: RepoPort, W: Write + Drop>(
     item: Item,
     out: W,
 ) -> Result<W, ServeFault>
-    ensures told { IfOk result
-        (Replies P.repository P.refusals P.is_mirror W.contents (command_in item) port.old port.new out) }
+    ensures told { RepliesTo P.RepoPort W.contents port.old port.new out (command_in item) result }
     ensures goes { GoesOn P.refusals P.is_mirror port.old port.new }
 {
     match Command::parse(alloc, item) {
@@ -60,7 +58,7 @@ pub fn answer<P: RepoPort, W: Write + Drop>(
 
 // What stands before the answer to a command.
 fn authorise<W: Write + Drop>(out: W) -> Result<W, ServeFault>
-    ensures { IfOk result (λ w. Appends (W.contents out) (W.contents w) (spell authorised)) }
+    ensures { Sends W.contents out (spell authorised) result }
 {
     let mut out = out;
     write_authorised(&mut out)?;
@@ -74,8 +72,7 @@ fn reply<P: RepoPort, W: Write + Drop>(
     command: Command,
     out: W,
 ) -> Result<W, ServeFault>
-    ensures told { IfOk result
-        (Tells P.repository P.refusals P.is_mirror W.contents (command_as command) port.old port.new out) }
+    ensures told { TellsCommand P.RepoPort W.contents port.old port.new out (command_as command) result }
     ensures goes { GoesOn P.refusals P.is_mirror port.old port.new }
 {
     match command {
@@ -98,8 +95,7 @@ fn reply<P: RepoPort, W: Write + Drop>(
 }
 
 fn latest<P: RepoPort, W: Write + Drop>(port: &mut P, out: W) -> Result<W, ServeFault>
-    ensures told { IfOk result
-        (Tells P.repository P.refusals P.is_mirror W.contents LatestRev port.old port.new out) }
+    ensures told { TellsCommand P.RepoPort W.contents port.old port.new out LatestRev result }
     ensures goes { GoesOn P.refusals P.is_mirror port.old port.new }
 {
     match port.latest() {
@@ -118,8 +114,7 @@ fn check_path<P: RepoPort, W: Write + Drop>(
     number: Option<u64>,
     out: W,
 ) -> Result<W, ServeFault>
-    ensures told { IfOk result (Tells P.repository P.refusals P.is_mirror W.contents
-        (CheckPath path.now number) port.old port.new out) }
+    ensures told { TellsCommand P.RepoPort W.contents port.old port.new out (CheckPath path.now number) result }
     ensures goes { GoesOn P.refusals P.is_mirror port.old port.new }
 {
     match tree_asked(port, number) {
@@ -147,8 +142,7 @@ fn proplist<P: RepoPort, W: Write + Drop>(
     number: u64,
     out: W,
 ) -> Result<W, ServeFault>
-    ensures told { IfOk result
-        (Tells P.repository P.refusals P.is_mirror W.contents (RevProplist number) port.old port.new out) }
+    ensures told { TellsCommand P.RepoPort W.contents port.old port.new out (RevProplist number) result }
     ensures goes { GoesOn P.refusals P.is_mirror port.old port.new }
 {
     match props_asked(port, number) {
@@ -167,8 +161,7 @@ fn prop<P: RepoPort, W: Write + Drop>(
     name: &PropName,
     out: W,
 ) -> Result<W, ServeFault>
-    ensures told { IfOk result
-        (Tells P.repository P.refusals P.is_mirror W.contents (RevProp number name.now) port.old port.new out) }
+    ensures told { TellsCommand P.RepoPort W.contents port.old port.new out (RevProp number name.now) result }
     ensures goes { GoesOn P.refusals P.is_mirror port.old port.new }
 {
     match props_asked(port, number) {
@@ -210,8 +203,8 @@ fn change<P: RepoPort, W: Write + Drop>(
     old: Previous,
     out: W,
 ) -> Result<W, ServeFault>
-    ensures told { IfOk result (Tells P.repository P.refusals P.is_mirror W.contents
-        (ChangeProp number name.now (option_map (λ v. v.items) value.now) (previous_as old)) port.old port.new out) }
+    ensures told { TellsCommand P.RepoPort W.contents port.old port.new out
+        (ChangeProp number name.now (option_map (λ v. v.items) value.now) (previous_as old)) result }
     ensures goes { GoesOn P.refusals P.is_mirror port.old port.new }
 {
     if port.read_only() {

@@ -8,7 +8,7 @@ ghost use Rattle.repo_core.specs.Refusals.{with_value, wanted};
 ghost use Rattle.repo_core.specs.Entries.{with_entry_in};
 ghost use Rattle.repo_core.specs.declared.entry.Entry.TheVariants.{Mapped};
 ghost use Rattle.ra_serve.specs.Answers.{asked};
-ghost use Rattle.ra_serve.specs.Ports.{Stays, MayRefuse, no_revision, change_due, tree_of};
+ghost use Rattle.ra_serve.specs.Ports.{StaysBy, MayRefuse, no_revision, change_due, tree_of};
 ghost use Rattle.ra_serve.specs.Tellings.{GoesOn};
 
 use crate::fault::PortFault;
@@ -37,8 +37,7 @@ pub fn asked<P: RepoPort>(port: &mut P, number: Option<u64>) -> Result<RevNo, Po
     ensures number { (x : Repository) → P.repository port.old ≡ Some x → IfOk result (λ n. n ≡ asked x number) }
     ensures refused { (x : Repository) → P.repository port.old ≡ Some x → IfErr result (λ f.
         MayRefuse (P.refusals port.old) (P.refusals port.new) f (no_revision x (asked x number))) }
-    ensures stays { Stays (P.repository port.old) (P.repository port.new) (P.is_mirror port.old)
-        (P.is_mirror port.new) (P.refusals port.old) (P.refusals port.new) }
+    ensures stays { StaysBy P.repository P.refusals P.is_mirror port.old port.new }
 {
     let Some(number) = number else {
         return port.latest();
@@ -56,8 +55,7 @@ pub fn newest<P: RepoPort>(port: &mut P) -> Result<u64, PortFault>
     ensures begun { (x : Repository) → P.repository port.old ≡ Some x → 0 < length x.revisions }
     ensures refused { (x : Repository) → P.repository port.old ≡ Some x → IfErr result (λ f.
         MayRefuse (P.refusals port.old) (P.refusals port.new) f None) }
-    ensures stays { Stays (P.repository port.old) (P.repository port.new) (P.is_mirror port.old)
-        (P.is_mirror port.new) (P.refusals port.old) (P.refusals port.new) }
+    ensures stays { StaysBy P.repository P.refusals P.is_mirror port.old port.new }
 {
     port.is_repository();
     match port.latest() {
@@ -78,8 +76,7 @@ pub fn tree_asked<P: RepoPort>(
         → IfOk result (λ t. t.1 ≡ tree_of x (asked x number)) }
     ensures refused { (x : Repository) → P.repository port.old ≡ Some x → IfErr result (λ f.
         MayRefuse (P.refusals port.old) (P.refusals port.new) f (no_revision x (asked x number))) }
-    ensures stays { Stays (P.repository port.old) (P.repository port.new) (P.is_mirror port.old)
-        (P.is_mirror port.new) (P.refusals port.old) (P.refusals port.new) }
+    ensures stays { StaysBy P.repository P.refusals P.is_mirror port.old port.new }
 {
     let number = match asked(port, number) {
         Ok(number) => number,
@@ -98,8 +95,7 @@ pub fn props_asked<P: RepoPort>(port: &mut P, number: u64) -> Result<Props, Port
         → IfOk result (λ p. p ≡ props_at x.revisions number) }
     ensures refused { (x : Repository) → P.repository port.old ≡ Some x → IfErr result (λ f.
         MayRefuse (P.refusals port.old) (P.refusals port.new) f (no_revision x number)) }
-    ensures stays { Stays (P.repository port.old) (P.repository port.new) (P.is_mirror port.old)
-        (P.is_mirror port.new) (P.refusals port.old) (P.refusals port.new) }
+    ensures stays { StaysBy P.repository P.refusals P.is_mirror port.old port.new }
 {
     let number = match revision(port, number) {
         Ok(number) => number,

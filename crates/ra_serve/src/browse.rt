@@ -1,15 +1,14 @@
 //! Files and directories that are looked at.
 
-ghost use Rattle.std.specs.Prelude.{◌≡◌, IfOk, OnOk};
+ghost use Rattle.std.specs.Prelude.{◌≡◌, IfOk};
 ghost use Rattle.std.specs.FinMap as finite;
-ghost use Rattle.std.specs.Io.KnownBytes.{Appends};
 ghost use Rattle.hex.specs.Hex.{encode_lower};
 ghost use Rattle.md5.specs.Md5.{md5};
-ghost use Rattle.ra_item.specs.Items.{spell};
 ghost use Rattle.ra_wire.specs.Replies.{file_found};
 ghost use Rattle.ra_wire.specs.Commands.{GetFile, GetDir};
 ghost use Rattle.ra_serve.specs.Answers.{file_told, file_with};
-ghost use Rattle.ra_serve.specs.Tellings.{Tells, GoesOn};
+ghost use Rattle.ra_serve.specs.Tellings.{GoesOn, Sends, Tells, TellsCommand};
+ghost use Rattle.ra_wire.specs.Writing.{Writes, WritesItem};
 
 use crate::ask::tree_asked;
 use crate::directory::tell_dir;
@@ -33,8 +32,8 @@ pub fn get_file<P: RepoPort, W: Write + Drop>(
     contents: bool,
     out: W,
 ) -> Result<W, ServeFault>
-    ensures told { IfOk result (Tells P.repository P.refusals P.is_mirror W.contents
-        (GetFile path.now number props contents) port.old port.new out) }
+    ensures told { TellsCommand P.RepoPort W.contents port.old port.new out
+        (GetFile path.now number props contents) result }
     ensures goes { GoesOn P.refusals P.is_mirror port.old port.new }
 {
     match tree_asked(port, number) {
@@ -52,8 +51,7 @@ fn tell_file<W: Write + Drop>(
     contents: bool,
     out: W,
 ) -> Result<W, ServeFault>
-    ensures { IfOk result (λ w. Appends (W.contents out) (W.contents w)
-        (file_told number props contents (finite.get tree.now path.now))) }
+    ensures { Sends W.contents out (file_told number props contents (finite.get tree.now path.now)) result }
 {
     let Some(node) = tree.get(path.names()) else {
         return no_such_path(out);
@@ -75,8 +73,7 @@ fn write_found<W: Write>(
     props: bool,
     contents: bool,
 ) -> io::Result<()>
-    ensures { OnOk result (Appends (W.contents out.old) (W.contents out.new)
-        (file_with number props contents node.now text.now)) }
+    ensures { Writes W.contents out.old out.new (file_with number props contents node.now text.now) result }
 {
     write_summed(out, node, text, number, props)?;
     write_wanted(out, text.as_slice(), contents)
@@ -90,8 +87,8 @@ fn write_summed<W: Write>(
     number: RevNo,
     props: bool,
 ) -> io::Result<()>
-    ensures { OnOk result (Appends (W.contents out.old) (W.contents out.new)
-        (spell (file_found (encode_lower (md5 text.now)) number props node.now.props))) }
+    ensures { WritesItem W.contents out.old out.new
+        (file_found (encode_lower (md5 text.now)) number props node.now.props) result }
 {
     let sum = hex_of(text.sum());
     write_file(out, sum.as_slice(), number, &node.props, props)

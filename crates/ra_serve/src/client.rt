@@ -1,6 +1,6 @@
 //! What a session reads and writes.
 
-ghost use Rattle.std.specs.Prelude.{◌≡◌, ◌≤◌, true, false, Err, OnOk};
+ghost use Rattle.std.specs.Prelude.{◌≡◌, true, false, Err, OnOk};
 ghost use Rattle.std.specs.Io.KnownBytes.{Keeps};
 ghost use Rattle.ra_item.specs.declared.fault.ItemFault.TheVariants as item;
 ghost use Rattle.ra_item.specs.declared.fault.NextFault.TheVariants.{Items};
@@ -23,7 +23,8 @@ pub struct ClientItems<I: Input + Drop, O> {
 }
 
 impl<I: Input + Drop, O: Output> ClientItems<I, O> {
-    ghost use Rattle.ra_item.specs.ItemStreams.{Answers, Fresh, is_spent, reader_of};
+    ghost use Rattle.ra_item.specs.ItemStreams.{Fresh, is_spent, reader_of};
+    ghost use Rattle.ra_serve.specs.Clients.{CountsOn, TakesNext};
     ghost use Rattle.ra_serve.specs.Outputs.{items_of};
 
     /// Before the input's next byte.
@@ -48,10 +49,10 @@ impl<I: Input + Drop, O: Output> ClientItems<I, O> {
     /// The next item, once the client has all that it was told.
     pub fn next(&mut self, out: &O) -> Result<Option<Item>, NextFault>
         requires handed { O.is_handed_on out.now }
-        ensures answer { Answers I.remaining I.failures I.reads (items_of self.old) (items_of self.new) result }
+        ensures answer { TakesNext self.old self.new result }
         ensures spent { is_spent (items_of self.old) ≡ true → result ≡ Err (Items item.Failed) }
         ensures goes_on { OnOk result (is_spent (items_of self.new) ≡ false) }
-        ensures failures { I.failures (reader_of (items_of self.old)) ≤ I.failures (reader_of (items_of self.new)) }
+        ensures failures { CountsOn self.old self.new }
     {
         let _ = out;
         self.items.next()

@@ -1,12 +1,12 @@
 //! A session over an output, whose failures are counted.
 
-ghost use Rattle.std.specs.Prelude.{◌≡◌, ◌≤◌, true, IfOk, IfErr, if◌then◌else◌};
-ghost use Rattle.byte_streams.specs.Causes.{Fails};
-ghost use Rattle.ra_item.specs.ItemStreams.{is_spent, meanwhile, reader_of};
+ghost use Rattle.std.specs.Prelude.{◌≡◌, true, IfOk, IfErr, if◌then◌else◌};
+ghost use Rattle.ra_item.specs.ItemStreams.{is_spent};
 ghost use Rattle.ra_serve.specs.Counted.{IsToldOnlyBy};
 ghost use Rattle.ra_serve.specs.Outputs.{items_of};
-ghost use Rattle.ra_serve.specs.Serving.{OnlyGreets, ServesSession};
+ghost use Rattle.ra_serve.specs.Serving.{OnlyGreets, HoldsSession};
 ghost use Rattle.ra_serve.specs.declared.fault.ServeFault.TheVariants.{OutOfMemory, WriteFailed};
+ghost use Rattle.ra_serve.specs.Clients.{ReaderFails, CountsOn};
 
 use crate::client::{ClientItems, SessionOut};
 use crate::fault::{End, ServeFault};
@@ -39,15 +39,13 @@ pub fn serve<P: RepoPort, I: Input + Drop, O: Output + Drop>(
     items: &mut ClientItems<I, O>,
     out: O,
 ) -> Result<(O, End), Unserved<O>>
-    ensures served { IfOk result (λ r. ServesSession P.repository P.refusals P.is_mirror I.remaining O.contents
-        root_url.now port.old port.new (items_of items.old) (items_of items.new) out r.0 r.1) }
+    ensures served { HoldsSession P.RepoPort O.contents port.old port.new items.old items.new out root_url.now result }
     ensures spent { is_spent (items_of items.old) ≡ true
         → IfOk result (λ r. OnlyGreets P.repository O.contents port.old port.new out r.0 r.1) }
     ensures handed { IfOk result (λ r. O.is_handed_on r.0) }
-    ensures reader { IfErr result (λ u. u.fault ≡ ServeFault.ReadFailed
-        → Fails (meanwhile I.failures I.reads (items_of items.old) (items_of items.new))) }
+    ensures reader { IfErr result (λ u. u.fault ≡ ServeFault.ReadFailed → ReaderFails items.old items.new) }
     ensures writer { IfErr result (λ u. IsToldOnlyBy O.failures (O.failures out) u.fault u.out) }
-    ensures failures { I.failures (reader_of (items_of items.old)) ≤ I.failures (reader_of (items_of items.new)) }
+    ensures failures { CountsOn items.old items.new }
 {
     let before = out.count_failures();
     let mut back = None;

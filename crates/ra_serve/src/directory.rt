@@ -1,13 +1,15 @@
 //! Directories that are told, entry by entry.
 
-ghost use Rattle.std.specs.Prelude.{◌≡◌, ◌+◌, ◌<◌, [], length, is_none, map, IfOk, OnOk, MatchOption};
-ghost use Rattle.std.specs.FinMap as finite;
+ghost use Rattle.std.specs.Prelude.{◌≡◌, [], length, is_none, map, IfOk};
 ghost use Rattle.std.specs.Io.KnownBytes.{Appends};
+ghost use Rattle.std.specs.FinMap as finite;
 ghost use Rattle.ra_item.specs.Items.{spell};
 ghost use Rattle.ra_wire.specs.Answers.{dirent_as};
 ghost use Rattle.ra_wire.specs.Replies.{dirent};
-ghost use Rattle.ra_serve.specs.Answers.{dir_told, entries_wanted, entry_of, item_due, unless_due};
-ghost use Rattle.ra_serve.specs.Directories.{front_of, spelt, told_of, whole};
+ghost use Rattle.ra_serve.specs.Answers.{dir_told, entries_wanted, entry_of, item_due};
+ghost use Rattle.ra_serve.specs.Directories.{front_of, spelt, told_of, whole, whole_told, LeavesRoom};
+ghost use Rattle.ra_wire.specs.Writing.{Writes};
+ghost use Rattle.ra_serve.specs.Tellings.{Sends};
 
 use crate::fault::ServeFault;
 use crate::told::{no_such_path, not_a_directory, too_long};
@@ -60,8 +62,7 @@ fn front_of(alloc: Global, node: &Node, number: RevNo, props: bool) -> io::Resul
 
 // The same to a writer.
 fn write_front<W: Write>(out: &mut W, node: &Node, number: u64, props: bool) -> io::Result<()>
-    ensures { OnOk result (Appends (W.contents out.old) (W.contents out.new)
-        (front_of number props node.now.props)) }
+    ensures { Writes W.contents out.old out.new (front_of number props node.now.props) result }
 {
     out.write_all(b"( success ( ")?;
     write_number(out, number)?;
@@ -78,9 +79,7 @@ fn tell_entries<W: Write + Drop>(
     front: &[u8],
     out: W,
 ) -> Result<W, ServeFault>
-    ensures { IfOk result (λ w. Appends (W.contents out) (W.contents w)
-        (unless_due (item_due (whole front.now (entries_wanted wanted path.now tree.now)))
-        (whole front.now (entries_wanted wanted path.now tree.now)))) }
+    ensures { Sends W.contents out (whole_told front.now (entries_wanted wanted path.now tree.now)) result }
 {
     let children = children_wanted(alloc, tree, path, wanted)?;
     if !have_room(alloc, children, front)? {
@@ -125,8 +124,7 @@ fn room_behind(
     children: Children<'_>,
     room: usize,
 ) -> Result<Option<usize>, AllocError>
-    ensures { IfOk result (λ left. MatchOption left (room < length (spelt (told_of children.entry)))
-        (λ left. left + length (spelt (told_of children.entry)) ≡ room)) }
+    ensures { LeavesRoom room (spelt (told_of children.entry)) result }
 {
     let mut children = children;
     let mut left = room;
@@ -158,8 +156,7 @@ fn write_entries<W: Write>(
     front: &[u8],
     out: &mut W,
 ) -> Result<(), ServeFault>
-    ensures { OnOk result (Appends (W.contents out.old) (W.contents out.new)
-        (whole front.now (told_of children.entry))) }
+    ensures { Writes W.contents out.old out.new (whole front.now (told_of children.entry)) result }
 {
     out.write_all(front)?;
     write_children(alloc, children, out)?;
@@ -172,7 +169,7 @@ fn write_children<W: Write>(
     children: Children<'_>,
     out: &mut W,
 ) -> Result<(), ServeFault>
-    ensures { OnOk result (Appends (W.contents out.old) (W.contents out.new) (spelt (told_of children.entry))) }
+    ensures { Writes W.contents out.old out.new (spelt (told_of children.entry)) result }
 {
     let mut children = children;
     while let Some(child) = children.next()? {

@@ -146,7 +146,8 @@ impl RepoPort for HeldRepo {
 /// What a replay of a revision of a repository takes beside the trees before it.
 pub(crate) fn replay_from(alloc: Global, repo: &Repo, number: RevNo) -> Result<Replay, AllocError>
     requires { number < length repo.now.revisions }
-    ensures replay { IfOk result (λ p. IsReplay repo.now number p.set (take number (trees_of repo.now.revisions)) p.props) }
+    ensures replay { IfOk result
+        (λ p. IsReplay repo.now number p.set (take number (trees_of repo.now.revisions)) p.props) }
 {
     let Some(set) = repo.set(number) else {
         unreachable!()

@@ -7,7 +7,7 @@ ghost use Rattle.repo_core.specs.Repository.{Repository, IsRepository, head_of, 
 ghost use Rattle.repo_core.specs.Refusals.{with_value, wanted};
 ghost use Rattle.repo_core.specs.Entries.{with_entry_in};
 ghost use Rattle.repo_core.specs.declared.entry.Entry.TheVariants.{Mapped};
-ghost use Rattle.ra_serve.specs.Ports.{Goes, Stays, MayRefuse, no_revision, change_due, tree_of, IsReplay};
+ghost use Rattle.ra_serve.specs.Ports.{Goes, StaysBy, MayRefuse, no_revision, change_due, tree_of, IsReplay};
 
 use crate::fault::PortFault;
 use dump_load::ChangeSet;
@@ -57,8 +57,7 @@ pub trait RepoPort {
         ensures head { (x : Repository) → repository self.old ≡ Some x → IfOk result (λ n. n ≡ head_of x.revisions) }
         ensures refused { (x : Repository) → repository self.old ≡ Some x
             → IfErr result (λ f. MayRefuse (refusals self.old) (refusals self.new) f None) }
-        ensures stays { Stays (repository self.old) (repository self.new) (is_mirror self.old) (is_mirror self.new)
-            (refusals self.old) (refusals self.new) };
+        ensures stays { StaysBy repository refusals is_mirror self.old self.new };
 
     /// The tree of a revision. NoSuchRevision (21) above the head.
     fn tree(&mut self, number: RevNo) -> Result<Tree, PortFault>
@@ -66,8 +65,7 @@ pub trait RepoPort {
             → IfOk result (λ t. (no_revision x number ≡ None) × (t ≡ tree_of x number)) }
         ensures refused { (x : Repository) → repository self.old ≡ Some x
             → IfErr result (λ f. MayRefuse (refusals self.old) (refusals self.new) f (no_revision x number)) }
-        ensures stays { Stays (repository self.old) (repository self.new) (is_mirror self.old) (is_mirror self.new)
-            (refusals self.old) (refusals self.new) };
+        ensures stays { StaysBy repository refusals is_mirror self.old self.new };
 
     /// The properties of a revision. NoSuchRevision (21) above the head.
     fn props(&mut self, number: RevNo) -> Result<Props, PortFault>
@@ -75,8 +73,7 @@ pub trait RepoPort {
             → IfOk result (λ p. (no_revision x number ≡ None) × (p ≡ props_at x.revisions number)) }
         ensures refused { (x : Repository) → repository self.old ≡ Some x
             → IfErr result (λ f. MayRefuse (refusals self.old) (refusals self.new) f (no_revision x number)) }
-        ensures stays { Stays (repository self.old) (repository self.new) (is_mirror self.old) (is_mirror self.new)
-            (refusals self.old) (refusals self.new) };
+        ensures stays { StaysBy repository refusals is_mirror self.old self.new };
 
     /// Puts a value at the name of a property of a revision, or takes it away, where the present value is as expected.
     /// NoSuchRevision (21), BaseMismatch (22), TooLong (8), in this order. A refused change changes nothing.
@@ -108,8 +105,7 @@ pub trait RepoPort {
         ensures enough { OnOk result (number ≤ length (lent self.new)) }
         ensures refused { (x : Repository) → repository self.old ≡ Some x
             → IfErr result (λ f. MayRefuse (refusals self.old) (refusals self.new) f (no_revision x number)) }
-        ensures stays { Stays (repository self.old) (repository self.new) (is_mirror self.old) (is_mirror self.new)
-            (refusals self.old) (refusals self.new) };
+        ensures stays { StaysBy repository refusals is_mirror self.old self.new };
 
     /// The trees that it lends, of the revisions from 0 up.
     fn trees(&self) -> &[Tree]

@@ -1,7 +1,6 @@
 //! Revisions as their edits.
 
-ghost use Rattle.std.specs.Prelude.{◌≡◌, ◌<◌, ◌≤◌, ◌++◌, length, Some, None, IfOk};
-ghost use Rattle.std.specs.Io.KnownBytes.{Appends};
+ghost use Rattle.std.specs.Prelude.{◌≡◌, ◌<◌, ◌≤◌, ◌++◌, length, Some, None};
 ghost use Rattle.node_base.specs.declared.limits.TheConstants.{REVISION};
 ghost use Rattle.editor_ends.specs.Drive.{drive};
 ghost use Rattle.ra_item.specs.Items.{spell};
@@ -10,7 +9,7 @@ ghost use Rattle.ra_wire.specs.Replies.{done, revprops};
 ghost use Rattle.ra_wire.specs.Commands.{Replay as ReplayOf, ReplayRange};
 ghost use Rattle.repo_core.specs.Repository.{Repository};
 ghost use Rattle.ra_serve.specs.Ports.{no_revision};
-ghost use Rattle.ra_serve.specs.Tellings.{Tells, GoesOn};
+ghost use Rattle.ra_serve.specs.Tellings.{GoesOn, Sends, TellsCommand};
 
 use crate::ask::{newest, revision};
 use crate::fault::{PortFault, ServeFault};
@@ -35,7 +34,7 @@ fn write_edit<W: Write + Drop>(
     out: W,
 ) -> Result<W, ServeFault>
     requires few { length trees.now ≤ REVISION }
-    ensures { IfOk result (λ w. Appends (W.contents out) (W.contents w) (edit_bytes (drive trees.now set.now))) }
+    ensures { Sends W.contents out (edit_bytes (drive trees.now set.now)) result }
 {
     match send_set(alloc, trees, set, Unflushed { inner: out }) {
         Ok(out) => Ok(out.inner),
@@ -52,8 +51,8 @@ fn write_revision<W: Write + Drop>(
     out: W,
 ) -> Result<W, ServeFault>
     requires few { length trees.now ≤ REVISION }
-    ensures { IfOk result (λ w. Appends (W.contents out) (W.contents w)
-        (spell (revprops replay.now.props) ++ edit_bytes (drive trees.now replay.now.set))) }
+    ensures { Sends W.contents out
+        (spell (revprops replay.now.props) ++ edit_bytes (drive trees.now replay.now.set)) result }
 {
     let mut out = out;
     write_revprops(&mut out, &replay.props)?;
@@ -62,7 +61,7 @@ fn write_revision<W: Write + Drop>(
 
 // Says that all is sent.
 fn done<W: Write + Drop>(out: W) -> Result<W, ServeFault>
-    ensures { IfOk result (λ w. Appends (W.contents out) (W.contents w) (spell done)) }
+    ensures { Sends W.contents out (spell done) result }
 {
     let mut out = out;
     write_done(&mut out)?;
@@ -76,8 +75,7 @@ pub fn replay<P: RepoPort, W: Write + Drop>(
     number: u64,
     out: W,
 ) -> Result<W, ServeFault>
-    ensures told { IfOk result
-        (Tells P.repository P.refusals P.is_mirror W.contents (ReplayOf number) port.old port.new out) }
+    ensures told { TellsCommand P.RepoPort W.contents port.old port.new out (ReplayOf number) result }
     ensures goes { GoesOn P.refusals P.is_mirror port.old port.new }
 {
     let number = match revision(port, number) {
@@ -102,8 +100,7 @@ pub fn range<P: RepoPort, W: Write + Drop>(
     last: u64,
     out: W,
 ) -> Result<W, ServeFault>
-    ensures told { IfOk result
-        (Tells P.repository P.refusals P.is_mirror W.contents (ReplayRange first last) port.old port.new out) }
+    ensures told { TellsCommand P.RepoPort W.contents port.old port.new out (ReplayRange first last) result }
     ensures goes { GoesOn P.refusals P.is_mirror port.old port.new }
 {
     let head = match newest(port) {
@@ -127,10 +124,9 @@ fn revisions<P: RepoPort, W: Write + Drop>(
     last: u16,
     out: W,
 ) -> Result<W, ServeFault>
-    requires there { (x : Repository) → P.repository port.old ≡ Some x
-        → (first < length x.revisions) × (last < length x.revisions) }
-    ensures told { IfOk result
-        (Tells P.repository P.refusals P.is_mirror W.contents (ReplayRange first last) port.old port.new out) }
+    requires there { (x : Repository) → P.repository port.old ≡ Some x → (first < length x.revisions)
+        × (last < length x.revisions) }
+    ensures told { TellsCommand P.RepoPort W.contents port.old port.new out (ReplayRange first last) result }
     ensures goes { GoesOn P.refusals P.is_mirror port.old port.new }
 {
     let mut sent = out;

@@ -1,12 +1,11 @@
 //! A session from its greeting to its end.
 
-ghost use Rattle.std.specs.Prelude.{◌≡◌, ◌≤◌, ◌++◌, true, false, is_some, Err, IfOk, IfErr, OnOk};
+ghost use Rattle.std.specs.Prelude.{◌≡◌, ◌++◌, true, false, is_some, Err, IfOk, IfErr, OnOk};
 ghost use Rattle.std.specs.Option.{option_map};
 ghost use Rattle.ra_wire.specs.Openings.{hello_in, login_in, login_as};
 ghost use Rattle.ra_serve.specs.Sessions.{is_anonymous};
-ghost use Rattle.std.specs.Io.KnownBytes.{Appends, Keeps};
-ghost use Rattle.byte_streams.specs.Causes.{Fails};
-ghost use Rattle.ra_item.specs.ItemStreams.{Answers, is_spent, meanwhile, reader_of};
+ghost use Rattle.std.specs.Io.KnownBytes.{Keeps};
+ghost use Rattle.ra_item.specs.ItemStreams.{is_spent};
 ghost use Rattle.ra_item.specs.Items.{spell};
 ghost use Rattle.ra_item.specs.declared.fault.ItemFault.TheVariants as item;
 ghost use Rattle.ra_wire.specs.Reading.{command_in};
@@ -15,10 +14,12 @@ ghost use Rattle.uuid.specs.Text.{hyphenated_text, lower};
 ghost use Rattle.node_base.specs.declared.refusal.Refusal.TheVariants as refusal;
 ghost use Rattle.ra_serve.specs.Answers.{refused};
 ghost use Rattle.ra_serve.specs.Outputs.{items_of};
-ghost use Rattle.ra_serve.specs.Serving.{OnlyGreets, ServesSession, ServesLogin, ServesCommands};
-ghost use Rattle.ra_serve.specs.Tellings.{Replies, GoesOn};
+ghost use Rattle.ra_serve.specs.Serving.{OnlyGreets, HoldsSession, HoldsLogin, HoldsCommands};
+ghost use Rattle.ra_serve.specs.Tellings.{GoesOn, Sends, RepliesTo};
 ghost use Rattle.ra_item.specs.declared.fault.NextFault.TheVariants as next;
 ghost use Rattle.ra_serve.specs.Serving.{EndsBy};
+ghost use Rattle.ra_wire.specs.Writing.{WritesItem};
+ghost use Rattle.ra_serve.specs.Clients.{TellsReader, NotTheReader, CountsOn, TakesNext};
 
 use crate::answer::answer;
 use crate::client::{ClientItems, HandsOn};
@@ -46,14 +47,12 @@ pub(crate) fn converse<P: RepoPort, I: Input + Drop, W: HandsOn + Drop>(
     items: &mut ClientItems<I, W::Out>,
     out: W,
 ) -> Result<(W, End), ServeFault>
-    ensures served { IfOk result (λ r. ServesSession P.repository P.refusals P.is_mirror I.remaining W.contents
-        root_url.now port.old port.new (items_of items.old) (items_of items.new) out r.0 r.1) }
+    ensures served { HoldsSession P.RepoPort W.contents port.old port.new items.old items.new out root_url.now result }
     ensures spent { is_spent (items_of items.old) ≡ true
         → IfOk result (λ r. OnlyGreets P.repository W.contents port.old port.new out r.0 r.1) }
     ensures handed { IfOk result (λ r. W.is_handed_on r.0) }
-    ensures reader { IfErr result (λ f. f ≡ ServeFault.ReadFailed
-        → Fails (meanwhile I.failures I.reads (items_of items.old) (items_of items.new))) }
-    ensures failures { I.failures (reader_of (items_of items.old)) ≤ I.failures (reader_of (items_of items.new)) }
+    ensures reader { TellsReader items.old items.new result }
+    ensures failures { CountsOn items.old items.new }
 {
     let out = greet(out)?;
     let item = match awaited(items, &out) {
@@ -74,10 +73,10 @@ fn awaited<I: Input + Drop, W: HandsOn>(
     out: &W,
 ) -> Result<Option<Item>, NextFault>
     requires handed { W.is_handed_on out.now }
-    ensures answer { Answers I.remaining I.failures I.reads (items_of items.old) (items_of items.new) result }
+    ensures answer { TakesNext items.old items.new result }
     ensures spent { is_spent (items_of items.old) ≡ true → result ≡ Err (next.Items item.Failed) }
     ensures goes_on { OnOk result (is_spent (items_of items.new) ≡ false) }
-    ensures failures { I.failures (reader_of (items_of items.old)) ≤ I.failures (reader_of (items_of items.new)) }
+    ensures failures { CountsOn items.old items.new }
 {
     items.next(out.output())
 }
@@ -85,7 +84,7 @@ fn awaited<I: Input + Drop, W: HandsOn>(
 // Whether an item is the greeting of a client of version 2.
 fn says_hello(alloc: Global, item: Item) -> Result<bool, ServeFault>
     ensures told { IfOk result (λ b. b ≡ is_some (hello_in item)) }
-    ensures reader { IfErr result (λ f. f ≡ ServeFault.ReadFailed → ⊥) }
+    ensures reader { NotTheReader result }
 {
     match Hello::parse(alloc, item) {
         Ok(_) => Ok(true),
@@ -96,9 +95,9 @@ fn says_hello(alloc: Global, item: Item) -> Result<bool, ServeFault>
 
 // The greeting, which the client awaits.
 fn greet<W: HandsOn + Drop>(out: W) -> Result<W, ServeFault>
-    ensures sent { IfOk result (λ w. Appends (W.contents out) (W.contents w) (spell greeting)) }
-    ensures handed { IfOk result (λ w. W.is_handed_on w) }
-    ensures writer { IfErr result (λ f. f ≡ ServeFault.ReadFailed → ⊥) }
+    ensures sent { Sends W.contents out (spell greeting) result }
+    ensures handed { IfOk result W.is_handed_on }
+    ensures writer { NotTheReader result }
 {
     let mut out = out;
     write_greeting(&mut out)?;
@@ -108,8 +107,8 @@ fn greet<W: HandsOn + Drop>(out: W) -> Result<W, ServeFault>
 // What is kept back goes out.
 fn flushed<W: HandsOn + Drop>(out: W) -> Result<W, ServeFault>
     ensures kept { IfOk result (λ w. Keeps (W.contents out) (W.contents w)) }
-    ensures handed { IfOk result (λ w. W.is_handed_on w) }
-    ensures writer { IfErr result (λ f. f ≡ ServeFault.ReadFailed → ⊥) }
+    ensures handed { IfOk result W.is_handed_on }
+    ensures writer { NotTheReader result }
 {
     let mut out = out;
     out.hand_on()?;
@@ -138,12 +137,10 @@ fn log_in<P: RepoPort, I: Input + Drop, W: HandsOn + Drop>(
     items: &mut ClientItems<I, W::Out>,
     out: W,
 ) -> Result<(W, End), ServeFault>
-    ensures served { IfOk result (λ r. ServesLogin P.repository P.refusals P.is_mirror I.remaining W.contents
-        root_url.now port.old port.new (items_of items.old) (items_of items.new) out r.0 r.1) }
+    ensures served { HoldsLogin P.RepoPort W.contents port.old port.new items.old items.new out root_url.now result }
     ensures handed { IfOk result (λ r. W.is_handed_on r.0) }
-    ensures reader { IfErr result (λ f. f ≡ ServeFault.ReadFailed
-        → Fails (meanwhile I.failures I.reads (items_of items.old) (items_of items.new))) }
-    ensures failures { I.failures (reader_of (items_of items.old)) ≤ I.failures (reader_of (items_of items.new)) }
+    ensures reader { TellsReader items.old items.new result }
+    ensures failures { CountsOn items.old items.new }
 {
     let identity = port.identity();
     let out = ask_who(&identity, out)?;
@@ -171,7 +168,7 @@ fn log_in<P: RepoPort, I: Input + Drop, W: HandsOn + Drop>(
 /// Whether a client says in the one way that is taken who it is; none for an item of another shape. OutOfMemory (70).
 pub fn logs_in(item: Item) -> Result<Option<bool>, ServeFault>
     ensures told { IfOk result (λ o. o ≡ option_map is_anonymous (login_in item)) }
-    ensures reader { IfErr result (λ f. f ≡ ServeFault.ReadFailed → ⊥) }
+    ensures reader { NotTheReader result }
 {
     match Login::parse(item) {
         Ok(login) => Ok(Some(is_anonymous(&login))),
@@ -188,10 +185,9 @@ fn is_anonymous(login: &Login) -> bool
 
 // Asks the client who it is.
 fn ask_who<W: HandsOn + Drop>(identity: &Uuid, out: W) -> Result<W, ServeFault>
-    ensures sent { IfOk result (λ w. Appends (W.contents out) (W.contents w)
-        (spell (mechanisms (hyphenated_text lower identity.now)))) }
-    ensures handed { IfOk result (λ w. W.is_handed_on w) }
-    ensures writer { IfErr result (λ f. f ≡ ServeFault.ReadFailed → ⊥) }
+    ensures sent { Sends W.contents out (spell (mechanisms (hyphenated_text lower identity.now))) result }
+    ensures handed { IfOk result W.is_handed_on }
+    ensures writer { NotTheReader result }
 {
     let mut out = out;
     write_realm(&mut out, identity)?;
@@ -200,8 +196,7 @@ fn ask_who<W: HandsOn + Drop>(identity: &Uuid, out: W) -> Result<W, ServeFault>
 
 /// Writes the ways in which a client may say who it is, in the realm of a repository. An `Err` is the writer's.
 pub fn write_realm<W: Write>(out: &mut W, identity: &Uuid) -> io::Result<()>
-    ensures { OnOk result (Appends (W.contents out.old) (W.contents out.new)
-        (spell (mechanisms (hyphenated_text lower identity.now)))) }
+    ensures { WritesItem W.contents out.old out.new (mechanisms (hyphenated_text lower identity.now)) result }
 {
     let mut buffer = Uuid::encode_buffer();
     let realm = identity.hyphenated().encode_lower(&mut buffer);
@@ -210,10 +205,10 @@ pub fn write_realm<W: Write>(out: &mut W, identity: &Uuid) -> io::Result<()>
 
 // The end of an opening.
 fn welcome<W: HandsOn + Drop>(identity: &Uuid, root_url: &[u8], out: W) -> Result<W, ServeFault>
-    ensures sent { IfOk result (λ w. Appends (W.contents out) (W.contents w)
-        (spell done ++ spell (welcome (hyphenated_text lower identity.now) root_url.now))) }
-    ensures handed { IfOk result (λ w. W.is_handed_on w) }
-    ensures writer { IfErr result (λ f. f ≡ ServeFault.ReadFailed → ⊥) }
+    ensures sent { Sends W.contents out
+        (spell done ++ spell (welcome (hyphenated_text lower identity.now) root_url.now)) result }
+    ensures handed { IfOk result W.is_handed_on }
+    ensures writer { NotTheReader result }
 {
     let mut out = out;
     write_done(&mut out)?;
@@ -223,8 +218,7 @@ fn welcome<W: HandsOn + Drop>(identity: &Uuid, root_url: &[u8], out: W) -> Resul
 
 /// Writes the identity of a repository and its root, the end of an opening. An `Err` is the writer's.
 pub fn write_identity<W: Write>(out: &mut W, identity: &Uuid, root_url: &[u8]) -> io::Result<()>
-    ensures { OnOk result (Appends (W.contents out.old) (W.contents out.new)
-        (spell (welcome (hyphenated_text lower identity.now) root_url.now))) }
+    ensures { WritesItem W.contents out.old out.new (welcome (hyphenated_text lower identity.now) root_url.now) result }
 {
     let mut buffer = Uuid::encode_buffer();
     let text = identity.hyphenated().encode_lower(&mut buffer);
@@ -233,9 +227,9 @@ pub fn write_identity<W: Write>(out: &mut W, identity: &Uuid, root_url: &[u8]) -
 
 // The client says in another way who it is.
 fn only_anonymous<W: HandsOn + Drop>(out: W) -> Result<W, ServeFault>
-    ensures sent { IfOk result (λ w. Appends (W.contents out) (W.contents w) (spell only_anonymous)) }
-    ensures handed { IfOk result (λ w. W.is_handed_on w) }
-    ensures writer { IfErr result (λ f. f ≡ ServeFault.ReadFailed → ⊥) }
+    ensures sent { Sends W.contents out (spell only_anonymous) result }
+    ensures handed { IfOk result W.is_handed_on }
+    ensures writer { NotTheReader result }
 {
     let mut out = out;
     write_only_anonymous(&mut out)?;
@@ -244,9 +238,9 @@ fn only_anonymous<W: HandsOn + Drop>(out: W) -> Result<W, ServeFault>
 
 // The client's item is another one.
 fn bad_opening<W: HandsOn + Drop>(out: W) -> Result<W, ServeFault>
-    ensures sent { IfOk result (λ w. Appends (W.contents out) (W.contents w) (refused refusal.BadShape)) }
-    ensures handed { IfOk result (λ w. W.is_handed_on w) }
-    ensures writer { IfErr result (λ f. f ≡ ServeFault.ReadFailed → ⊥) }
+    ensures sent { Sends W.contents out (refused refusal.BadShape) result }
+    ensures handed { IfOk result W.is_handed_on }
+    ensures writer { NotTheReader result }
 {
     let mut out = out;
     write_failure(&mut out, 48, b"bad command shape")?;
@@ -261,12 +255,10 @@ fn commands<P: RepoPort, I: Input + Drop, W: HandsOn + Drop>(
     out: W,
 ) -> Result<(W, End), ServeFault>
     requires handed { W.is_handed_on out }
-    ensures served { IfOk result (λ r. ServesCommands P.repository P.refusals P.is_mirror I.remaining W.contents
-        port.old port.new (items_of items.old) (items_of items.new) out r.0 r.1) }
+    ensures served { HoldsCommands P.RepoPort W.contents port.old port.new items.old items.new out result }
     ensures handed { IfOk result (λ r. W.is_handed_on r.0) }
-    ensures reader { IfErr result (λ f. f ≡ ServeFault.ReadFailed
-        → Fails (meanwhile I.failures I.reads (items_of items.old) (items_of items.new))) }
-    ensures failures { I.failures (reader_of (items_of items.old)) ≤ I.failures (reader_of (items_of items.new)) }
+    ensures reader { TellsReader items.old items.new result }
+    ensures failures { CountsOn items.old items.new }
 {
     let mut sent = out;
     for _ in 0..u64::MAX {
@@ -286,11 +278,10 @@ fn turn<P: RepoPort, W: HandsOn + Drop>(
     item: Item,
     out: W,
 ) -> Result<W, ServeFault>
-    ensures told { IfOk result
-        (Replies P.repository P.refusals P.is_mirror W.contents (command_in item) port.old port.new out) }
-    ensures handed { IfOk result (λ w. W.is_handed_on w) }
+    ensures told { RepliesTo P.RepoPort W.contents port.old port.new out (command_in item) result }
+    ensures handed { IfOk result W.is_handed_on }
     ensures goes { GoesOn P.refusals P.is_mirror port.old port.new }
-    ensures writer { IfErr result (λ f. f ≡ ServeFault.ReadFailed → ⊥) }
+    ensures writer { NotTheReader result }
 {
     match answer(alloc, port, item, out) {
         Ok(out) => flushed(out),

@@ -1,10 +1,10 @@
 //! Refusals as they are told.
 
-ghost use Rattle.std.specs.Prelude.{◌≡◌, IfOk};
-ghost use Rattle.std.specs.Io.KnownBytes.{Appends};
+ghost use Rattle.std.specs.Prelude.{◌≡◌};
 ghost use Rattle.node_base.specs.declared.refusal.Refusal.TheVariants as refusal;
 ghost use Rattle.ra_serve.specs.Answers.{refused};
 ghost use Rattle.ra_serve.specs.Ports.{refusal_of};
+ghost use Rattle.ra_serve.specs.Tellings.{Sends};
 
 use crate::fault::{PortFault, ServeFault};
 use ra_wire::reply_writer::write_failure;
@@ -12,7 +12,7 @@ use std::io::Write;
 
 /// Tells a refusal of the port.
 pub fn refuse<W: Write + Drop>(fault: PortFault, out: W) -> Result<W, ServeFault>
-    ensures { IfOk result (λ w. Appends (W.contents out) (W.contents w) (refused (refusal_of fault))) }
+    ensures { Sends W.contents out (refused (refusal_of fault)) result }
 {
     let mut out = out;
     write_failure(&mut out, fault.number(), fault.text())?;
@@ -21,7 +21,7 @@ pub fn refuse<W: Write + Drop>(fault: PortFault, out: W) -> Result<W, ServeFault
 
 /// Nothing is at the path (11).
 pub fn no_such_path<W: Write + Drop>(out: W) -> Result<W, ServeFault>
-    ensures { IfOk result (λ w. Appends (W.contents out) (W.contents w) (refused refusal.NoSuchPath)) }
+    ensures { Sends W.contents out (refused refusal.NoSuchPath) result }
 {
     let mut out = out;
     write_failure(&mut out, 11, b"no such path")?;
@@ -30,7 +30,7 @@ pub fn no_such_path<W: Write + Drop>(out: W) -> Result<W, ServeFault>
 
 /// A file is where a directory is wanted (13).
 pub fn not_a_directory<W: Write + Drop>(out: W) -> Result<W, ServeFault>
-    ensures { IfOk result (λ w. Appends (W.contents out) (W.contents w) (refused refusal.NotDir)) }
+    ensures { Sends W.contents out (refused refusal.NotDir) result }
 {
     let mut out = out;
     write_failure(&mut out, 13, b"not a directory")?;
@@ -39,7 +39,7 @@ pub fn not_a_directory<W: Write + Drop>(out: W) -> Result<W, ServeFault>
 
 /// A directory is where a file is wanted (17).
 pub fn kind_mismatch<W: Write + Drop>(out: W) -> Result<W, ServeFault>
-    ensures { IfOk result (λ w. Appends (W.contents out) (W.contents w) (refused refusal.KindMismatch)) }
+    ensures { Sends W.contents out (refused refusal.KindMismatch) result }
 {
     let mut out = out;
     write_failure(&mut out, 17, b"node kind mismatch")?;
@@ -48,7 +48,7 @@ pub fn kind_mismatch<W: Write + Drop>(out: W) -> Result<W, ServeFault>
 
 /// An answer is past the limit of an item (8).
 pub fn too_long<W: Write + Drop>(out: W) -> Result<W, ServeFault>
-    ensures { IfOk result (λ w. Appends (W.contents out) (W.contents w) (refused refusal.TooLong)) }
+    ensures { Sends W.contents out (refused refusal.TooLong) result }
 {
     let mut out = out;
     write_failure(&mut out, 8, b"limit exceeded")?;
@@ -57,7 +57,7 @@ pub fn too_long<W: Write + Drop>(out: W) -> Result<W, ServeFault>
 
 /// The port takes no changes (24).
 pub fn read_only<W: Write + Drop>(out: W) -> Result<W, ServeFault>
-    ensures { IfOk result (λ w. Appends (W.contents out) (W.contents w) (refused refusal.ReadOnly)) }
+    ensures { Sends W.contents out (refused refusal.ReadOnly) result }
 {
     let mut out = out;
     write_failure(&mut out, 24, b"the mirror is read-only")?;
@@ -66,7 +66,7 @@ pub fn read_only<W: Write + Drop>(out: W) -> Result<W, ServeFault>
 
 /// Another form of a replay is asked for than the one that is served (43).
 pub fn replay_form<W: Write + Drop>(out: W) -> Result<W, ServeFault>
-    ensures { IfOk result (λ w. Appends (W.contents out) (W.contents w) (refused refusal.ReplayForm)) }
+    ensures { Sends W.contents out (refused refusal.ReplayForm) result }
 {
     let mut out = out;
     write_failure(&mut out, 43, b"replay form not supported")?;
@@ -75,7 +75,7 @@ pub fn replay_form<W: Write + Drop>(out: W) -> Result<W, ServeFault>
 
 /// A command of another name (47).
 pub fn unknown_command<W: Write + Drop>(out: W) -> Result<W, ServeFault>
-    ensures { IfOk result (λ w. Appends (W.contents out) (W.contents w) (refused refusal.UnknownCommand)) }
+    ensures { Sends W.contents out (refused refusal.UnknownCommand) result }
 {
     let mut out = out;
     write_failure(&mut out, 47, b"unknown command")?;
@@ -84,7 +84,7 @@ pub fn unknown_command<W: Write + Drop>(out: W) -> Result<W, ServeFault>
 
 /// An item of another shape (48).
 pub fn bad_shape<W: Write + Drop>(out: W) -> Result<W, ServeFault>
-    ensures { IfOk result (λ w. Appends (W.contents out) (W.contents w) (refused refusal.BadShape)) }
+    ensures { Sends W.contents out (refused refusal.BadShape) result }
 {
     let mut out = out;
     write_failure(&mut out, 48, b"bad command shape")?;
