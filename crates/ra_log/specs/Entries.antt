@@ -1,13 +1,14 @@
 -- What a log tells of a revision: a function of its set, its properties, the trees up to it, and what is asked.
-use Rattle.std.specs.Prelude.{ℕ, ◌&&◌, not, Bool, true, false, List, [], ◌∷◌, map, length, Option, Some, None, is_some, codes, if◌then◌else◌}
+use Rattle.std.specs.Prelude.{ℕ, ◌++◌, ◌&&◌, not, Bool, true, false, List, [], ◌∷◌, map, length, Option, Some, None, is_some, codes, if◌then◌else◌}
 use Rattle.std.specs.List.{filter, flat_map, list_any, slice_get}
 use Rattle.std.specs.Option.{option_map}
 use Rattle.std.specs.Str.{bytes_eq}
 use Rattle.std.specs.FinMap as finite
-use Rattle.node_base.specs.Path.{Name}
+use Rattle.node_base.specs.Path.{Name, Path}
 use Rattle.node_base.specs.Props.{PropMap}
 use Rattle.node_base.specs.Tree.{PathMap}
 use Rattle.node_base.specs.declared.node.NodeKind.{NodeKind}
+use Rattle.node_base.specs.declared.node.Source.{Source}
 use Rattle.dump_load.specs.declared.change.Change.{Change}
 use Rattle.path_history.specs.Logs.{letter, tells_props}
 use Rattle.ra_item.specs.Items.{Item, Word, Number, Text, spell}
@@ -24,10 +25,21 @@ log_as l = record { paths = l.paths.items; start = l.start; end = l.end; changed
 
 -- ---- changed paths
 
+-- where a copy came from: [ copy-path copy-rev ]
+abbrev pub copied_from : Option Source → Item
+copied_from source = source_item (option_map (λ s. (s.path, s.revision)) source)
+
+-- what a path is, and what of it changed: ( kind text-changed props-changed )
+abbrev pub kind_item : NodeKind → Bool → Bool → Item
+kind_item kind text props = list (Text (node_kind_word kind) ∷ Word (truth_word text) ∷ Word (truth_word props) ∷ [])
+
 -- path action [ copy-path copy-rev ] ( kind text-changed props-changed )
+abbrev pub path_item : Path → ℕ → Option Source → NodeKind → Bool → Bool → Item
+path_item path action source kind text props = list (Text (absolute path) ∷ Word (action ∷ []) ∷ copied_from source ∷ kind_item kind text props ∷ [])
+
+-- a change, by what it is of
 abbrev pub change_with : NodeKind → Change → Item
-change_with kind c = list (Text (absolute c.path) ∷ Word (letter c.action ∷ []) ∷ source_item (option_map (λ s. (s.path, s.revision)) c.source)
-    ∷ list (Text (node_kind_word kind) ∷ Word (truth_word (is_some c.text)) ∷ Word (truth_word (tells_props c)) ∷ []) ∷ [])
+change_with kind c = path_item c.path (letter c.action) c.source kind (is_some c.text) (tells_props c)
 
 -- a change of a revision's set
 abbrev pub change_item : List PathMap → ℕ → List Change → Change → Item
@@ -64,13 +76,27 @@ is_other w name = wants w name && not (is_usual name)
 abbrev pub others_of : Revprops → List (Name × List ℕ) → List (Name × List ℕ)
 others_of w es = filter (λ e. is_other w e.0) es
 
+-- of a revision's properties
+abbrev pub others_in : Revprops → PropMap → List (Name × List ℕ)
+others_in w props = others_of w (finite.entries props)
+
+-- [ author ] [ date ] [ message ]
+abbrev pub usual_told : Revprops → PropMap → List Item
+usual_told w props = string (value_told w props (codes "svn:author")) ∷ string (value_told w props (codes "svn:date")) ∷ string (value_told w props (codes "svn:log")) ∷ []
+
+-- has-children invalid-rev revprop-count ( property .. ) subtractive-merge
+abbrev pub others_told : Revprops → PropMap → List Item
+others_told w props = Word (truth_word false) ∷ Word (truth_word false) ∷ Number (length (others_in w props)) ∷ properties (others_in w props) ∷ Word (truth_word false) ∷ []
+
+-- both, one behind another
+abbrev pub revprops_told : Revprops → PropMap → List Item
+revprops_told w props = usual_told w props ++ others_told w props
+
 -- ---- an entry
 
 -- ( change .. ) rev [ author ] [ date ] [ message ] has-children invalid-rev revprop-count ( property .. ) subtractive-merge
 abbrev pub entry_item : LogAsk → List PathMap → ℕ → List Change → PropMap → Item
-entry_item l trees n set props = list (changes_item l.changed_paths trees n set ∷ Number n
-    ∷ string (value_told l.revprops props (codes "svn:author")) ∷ string (value_told l.revprops props (codes "svn:date")) ∷ string (value_told l.revprops props (codes "svn:log"))
-    ∷ Word (truth_word false) ∷ Word (truth_word false) ∷ Number (length (others_of l.revprops (finite.entries props))) ∷ properties (others_of l.revprops (finite.entries props)) ∷ Word (truth_word false) ∷ [])
+entry_item l trees n set props = list (changes_item l.changed_paths trees n set ∷ Number n ∷ revprops_told l.revprops props)
 
 -- the entry of a revision; a revision that isn't there has none
 abbrev pub entry_bytes : LogAsk → List PathMap → ℕ → Option (List Change) → Option PropMap → List ℕ

@@ -1,3 +1,5 @@
 pub mod Kinds
+pub mod Writing
 pub mod Entries
 pub mod Versions
+pub mod Rows

@@ -80,9 +80,13 @@ text_of o = option_and_then (λ x. x.text) o
 abbrev pub revision_props : List PropMap → ℕ → PropMap
 revision_props props n = unwrap_or (slice_get props n) finite.empty
 
+-- the text of a version, by what the one before it was
+abbrev pub text_behind : Option Node → Option Node → List ℕ
+text_behind old new = text_told (text_of old) (unwrap_or (text_of new) [])
+
 -- a version at a place, by what the one before it was
 abbrev pub version_told : List PropMap → Option Node → Option Node → Place → List ℕ
-version_told props old new a = head_told a (revision_props props a.revision) (props_of old) (props_of new) ++ text_told (text_of old) (unwrap_or (text_of new) [])
+version_told props old new a = head_told a (revision_props props a.revision) (props_of old) (props_of new) ++ text_behind old new
 
 -- those at some places, oldest first, by the properties and the trees of all revisions, and by what was there before them
 abbrev pub versions_told : List PropMap → List PathMap → Option Node → List Place → List ℕ

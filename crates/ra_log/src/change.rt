@@ -1,13 +1,11 @@
 //! The changed paths of a revision.
 
-ghost use Rattle.std.specs.Prelude.{◌≡◌, ◌∷◌, [], map, OnOk};
-ghost use Rattle.std.specs.Option.{option_map};
-ghost use Rattle.std.specs.Io.KnownBytes.{Appends};
-ghost use Rattle.ra_item.specs.Items.{spell, spell_all, row, Word, Text};
-ghost use Rattle.ra_wire.specs.Commands.{truth_word};
-ghost use Rattle.ra_wire.specs.Replies.{list, node_kind_word};
-ghost use Rattle.browse_wire.specs.Told.{absolute, source_item};
-ghost use Rattle.ra_log.specs.Entries.{change_with, change_item, changes_told, changes_item};
+ghost use Rattle.std.specs.Prelude.{◌∷◌, [], map};
+ghost use Rattle.ra_item.specs.Items.{Word};
+ghost use Rattle.ra_wire.specs.Replies.{list};
+ghost use Rattle.ra_log.specs.Entries.{copied_from, kind_item, path_item, change_with};
+ghost use Rattle.ra_log.specs.Entries.{change_item, changes_told, changes_item};
+ghost use Rattle.ra_log.specs.Writing.{WritesItem, WritesItems};
 
 use crate::kind::kind_told;
 use browse_wire::pieces::write_absolute;
@@ -24,15 +22,14 @@ use std::io::Write;
 
 // A letter for what a revision did.
 fn write_letter<W: Write>(out: &mut W, letter: u8) -> io::Result<()>
-    ensures { OnOk result (Appends (W.contents out.old) (W.contents out.new) (spell (Word (letter ∷ [])))) }
+    ensures { WritesItem W.Write out.old out.new (Word (letter ∷ [])) result }
 {
     write_word(out, &[letter])
 }
 
 // Where a copy came from.
 fn write_source<W: Write>(out: &mut W, source: &Option<Source>) -> io::Result<()>
-    ensures { OnOk result (Appends (W.contents out.old) (W.contents out.new)
-        (spell (source_item (option_map (λ s. (s.path, s.revision)) source.now)))) }
+    ensures { WritesItem W.Write out.old out.new (copied_from source.now) result }
 {
     match source {
         None => write_none(out),
@@ -47,8 +44,7 @@ fn write_source<W: Write>(out: &mut W, source: &Option<Source>) -> io::Result<()
 
 // What a path is, and what of it changed.
 fn write_changed<W: Write>(out: &mut W, kind: NodeKind, text: bool, props: bool) -> io::Result<()>
-    ensures { OnOk result (Appends (W.contents out.old) (W.contents out.new)
-        (spell (list (Text (node_kind_word kind) ∷ Word (truth_word text) ∷ Word (truth_word props) ∷ [])))) }
+    ensures { WritesItem W.Write out.old out.new (kind_item kind text props) result }
 {
     write_open(out)?;
     write_kind_text(out, kind)?;
@@ -65,10 +61,8 @@ fn write_parts<W: Write>(
     kind: NodeKind,
     told: ChangedPath,
 ) -> io::Result<()>
-    ensures { OnOk result (Appends (W.contents out.old) (W.contents out.new)
-        (spell (list (Text (absolute path.now) ∷ Word (told.letter ∷ [])
-        ∷ source_item (option_map (λ s. (s.path, s.revision)) source.now)
-        ∷ list (Text (node_kind_word kind) ∷ Word (truth_word told.text) ∷ Word (truth_word told.props) ∷ []) ∷ [])))) }
+    ensures { WritesItem W.Write out.old out.new
+        (path_item path.now told.letter source.now kind told.text told.props) result }
 {
     write_open(out)?;
     write_absolute(out, path)?;
@@ -80,7 +74,7 @@ fn write_parts<W: Write>(
 
 // The same by the change.
 fn write_change<W: Write>(out: &mut W, kind: NodeKind, change: &Change) -> io::Result<()>
-    ensures { OnOk result (Appends (W.contents out.old) (W.contents out.new) (spell (change_with kind change.now))) }
+    ensures { WritesItem W.Write out.old out.new (change_with kind change.now) result }
 {
     write_parts(
         out,
@@ -100,8 +94,7 @@ fn write_told<W: Write>(
     set: &ChangeSet,
     change: &Change,
 ) -> Result<(), ServeFault>
-    ensures { OnOk result (Appends (W.contents out.old) (W.contents out.new)
-        (spell (change_item trees.now number set.now change.now))) }
+    ensures { WritesItem W.Write out.old out.new (change_item trees.now number set.now change.now) result }
 {
     let kind = kind_told(alloc, trees, number, set, change)?;
     write_change(out, kind, change)?;
@@ -117,8 +110,7 @@ fn write_each<W: Write>(
     set: &ChangeSet,
     changes: &[Change],
 ) -> Result<(), ServeFault>
-    ensures { OnOk result (Appends (W.contents out.old) (W.contents out.new)
-        (spell_all (row (map (change_item trees.now number set.now) changes.now)))) }
+    ensures { WritesItems W.Write out.old out.new (map (change_item trees.now number set.now) changes.now) result }
 {
     for change in changes {
         write_told(alloc, out, trees, number, set, change)?;
@@ -135,8 +127,8 @@ fn write_list<W: Write>(
     set: &ChangeSet,
     changes: &[Change],
 ) -> Result<(), ServeFault>
-    ensures { OnOk result (Appends (W.contents out.old) (W.contents out.new)
-        (spell (list (map (change_item trees.now number set.now) changes.now)))) }
+    ensures { WritesItem W.Write out.old out.new
+        (list (map (change_item trees.now number set.now) changes.now)) result }
 {
     write_open(out)?;
     write_each(alloc, out, trees, number, set, changes)?;
@@ -152,15 +144,14 @@ fn write_all<W: Write>(
     number: RevNo,
     set: &ChangeSet,
 ) -> Result<(), ServeFault>
-    ensures { OnOk result (Appends (W.contents out.old) (W.contents out.new)
-        (spell (list (changes_told trees.now number set.now)))) }
+    ensures { WritesItem W.Write out.old out.new (list (changes_told trees.now number set.now)) result }
 {
     write_list(alloc, out, trees, number, set, set.changes())
 }
 
 // Brackets with nothing.
 fn write_no_changes<W: Write>(out: &mut W) -> Result<(), ServeFault>
-    ensures { OnOk result (Appends (W.contents out.old) (W.contents out.new) (spell (list []))) }
+    ensures { WritesItem W.Write out.old out.new (list []) result }
 {
     write_none(out)?;
     Ok(())
@@ -175,8 +166,7 @@ pub fn write_changes<W: Write>(
     number: RevNo,
     set: &ChangeSet,
 ) -> Result<(), ServeFault>
-    ensures { OnOk result (Appends (W.contents out.old) (W.contents out.new)
-        (spell (changes_item wanted trees.now number set.now))) }
+    ensures { WritesItem W.Write out.old out.new (changes_item wanted trees.now number set.now) result }
 {
     if wanted {
         return write_all(alloc, out, trees, number, set);

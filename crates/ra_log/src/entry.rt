@@ -1,10 +1,9 @@
 //! The entries of a log.
 
-ghost use Rattle.std.specs.Prelude.{◌≡◌, slice_get, OnOk};
 ghost use Rattle.std.specs.Option.{option_copied};
-ghost use Rattle.std.specs.Io.KnownBytes.{Appends};
-ghost use Rattle.ra_item.specs.Items.{spell};
-ghost use Rattle.ra_log.specs.Entries.{log_as, entry_item, entry_bytes, entries_told};
+ghost use Rattle.ra_log.specs.Entries.{log_as, entry_item, entry_bytes};
+ghost use Rattle.ra_log.specs.Rows.{entry_in, entries_in};
+ghost use Rattle.ra_log.specs.Writing.{Writes, WritesItem};
 
 use crate::change::write_changes;
 use crate::revprops::write_props;
@@ -28,8 +27,8 @@ fn write_entry<W: Write>(
     set: &ChangeSet,
     props: &Props,
 ) -> Result<(), ServeFault>
-    ensures { OnOk result (Appends (W.contents out.old) (W.contents out.new)
-        (spell (entry_item (log_as order.now) trees.now number set.now props.now))) }
+    ensures { WritesItem W.Write out.old out.new
+        (entry_item (log_as order.now) trees.now number set.now props.now) result }
 {
     write_open(out)?;
     write_changes(alloc, out, order.changed_paths, trees, number, set)?;
@@ -49,8 +48,8 @@ fn write_found<W: Write>(
     set: Option<&ChangeSet>,
     props: Option<&Props>,
 ) -> Result<(), ServeFault>
-    ensures { OnOk result (Appends (W.contents out.old) (W.contents out.new)
-        (entry_bytes (log_as order.now) trees.now number (option_copied set.entry) (option_copied props.entry))) }
+    ensures { Writes W.Write out.old out.new (entry_bytes (log_as order.now) trees.now number (option_copied set.entry)
+        (option_copied props.entry)) result }
 {
     let Some(set) = set else {
         return Ok(());
@@ -69,9 +68,7 @@ fn write_numbered<W: Write>(
     rows: &LogRows,
     number: u16,
 ) -> Result<(), ServeFault>
-    ensures { OnOk result (Appends (W.contents out.old) (W.contents out.new)
-        (entry_bytes (log_as order.now) rows.now.trees.items number (slice_get rows.now.sets.items number)
-        (slice_get rows.now.props.items number))) }
+    ensures { Writes W.Write out.old out.new (entry_in (log_as order.now) rows.now number) result }
 {
     let number = RevNo::new(number);
     let trees = rows.trees.as_slice();
@@ -95,8 +92,7 @@ pub fn write_entries<W: Write>(
     rows: &LogRows,
     numbers: &[u16],
 ) -> Result<(), ServeFault>
-    ensures { OnOk result (Appends (W.contents out.old) (W.contents out.new)
-        (entries_told (log_as order.now) rows.now.sets.items rows.now.props.items rows.now.trees.items numbers.now)) }
+    ensures { Writes W.Write out.old out.new (entries_in (log_as order.now) rows.now numbers.now) result }
 {
     for number in numbers {
         write_numbered(alloc, out, order, rows, *number)?;

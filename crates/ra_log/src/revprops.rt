@@ -1,16 +1,16 @@
 //! The properties of a revision that an entry tells.
 
-ghost use Rattle.std.specs.Prelude.{◌≡◌, ◌∷◌, [], false, map, length, codes, OnOk};
+ghost use Rattle.std.specs.Prelude.{◌≡◌, ◌∷◌, [], false, map, length};
 ghost use Rattle.std.specs.List.{list_any};
 ghost use Rattle.std.specs.Option.{option_copied};
 ghost use Rattle.std.specs.Str.{bytes_eq};
 ghost use Rattle.std.specs.FinMap as finite;
-ghost use Rattle.std.specs.Io.KnownBytes.{Appends};
-ghost use Rattle.ra_item.specs.Items.{spell, spell_all, row, Word, Number};
-ghost use Rattle.ra_wire.specs.Commands.{truth_word};
+ghost use Rattle.ra_item.specs.Items.{Number};
 ghost use Rattle.ra_wire.specs.Replies.{string, property, properties};
 ghost use Rattle.browse_wire.specs.Asks.{revprops_as};
-ghost use Rattle.ra_log.specs.Entries.{is_usual, wants, value_told, is_other, others_of};
+ghost use Rattle.ra_log.specs.Entries.{is_usual, wants, value_told, is_other, others_of, others_in};
+ghost use Rattle.ra_log.specs.Entries.{usual_told, others_told, revprops_told};
+ghost use Rattle.ra_log.specs.Writing.{WritesItem, WritesItems};
 
 use browse_wire::ask::RevpropsWanted;
 use node_base::{PropName, PropValue, Props};
@@ -68,18 +68,15 @@ fn write_value<W: Write>(
     props: &Props,
     name: &[u8],
 ) -> io::Result<()>
-    ensures { OnOk result (Appends (W.contents out.old) (W.contents out.new)
-        (spell (string (value_told (revprops_as wanted.now) props.now name.now)))) }
+    ensures { WritesItem W.Write out.old out.new
+        (string (value_told (revprops_as wanted.now) props.now name.now)) result }
 {
     write_string(out, value_told(wanted, props, name))
 }
 
 // A revision's author, date and message.
 fn write_usual<W: Write>(out: &mut W, wanted: &RevpropsWanted, props: &Props) -> io::Result<()>
-    ensures { OnOk result (Appends (W.contents out.old) (W.contents out.new)
-        (spell_all (row (string (value_told (revprops_as wanted.now) props.now (codes "svn:author"))
-        ∷ string (value_told (revprops_as wanted.now) props.now (codes "svn:date"))
-        ∷ string (value_told (revprops_as wanted.now) props.now (codes "svn:log")) ∷ [])))) }
+    ensures { WritesItems W.Write out.old out.new (usual_told (revprops_as wanted.now) props.now) result }
 {
     write_value(out, wanted, props, b"svn:author")?;
     write_value(out, wanted, props, b"svn:date")?;
@@ -113,8 +110,8 @@ fn write_other<W: Write>(
     name: &[u8],
     value: &[u8],
 ) -> io::Result<()>
-    ensures { OnOk result (Appends (W.contents out.old) (W.contents out.new)
-        (spell_all (row (map property (others_of (revprops_as wanted.now) ((name.now, value.now) ∷ [])))))) }
+    ensures { WritesItems W.Write out.old out.new
+        (map property (others_of (revprops_as wanted.now) ((name.now, value.now) ∷ []))) result }
 {
     if is_other(wanted, name) {
         return write_property(out, name, value);
@@ -128,8 +125,8 @@ fn write_each<W: Write>(
     wanted: &RevpropsWanted,
     entries: &[(PropName, PropValue)],
 ) -> io::Result<()>
-    ensures { OnOk result (Appends (W.contents out.old) (W.contents out.new)
-        (spell_all (row (map property (others_of (revprops_as wanted.now) entries.now))))) }
+    ensures { WritesItems W.Write out.old out.new
+        (map property (others_of (revprops_as wanted.now) entries.now)) result }
 {
     for (name, value) in entries {
         write_other(out, wanted, name.as_bytes(), value.as_slice())?;
@@ -139,15 +136,15 @@ fn write_each<W: Write>(
 
 // How many of a revision's properties are others.
 fn count_of(wanted: &RevpropsWanted, props: &Props) -> usize
-    ensures { result ≡ length (others_of (revprops_as wanted.now) (finite.entries props.now)) }
+    ensures { result ≡ length (others_in (revprops_as wanted.now) props.now) }
 {
     count_others(wanted, props.entries())
 }
 
 // The same as a number.
 fn write_count<W: Write>(out: &mut W, wanted: &RevpropsWanted, props: &Props) -> io::Result<()>
-    ensures { OnOk result (Appends (W.contents out.old) (W.contents out.new)
-        (spell (Number (length (others_of (revprops_as wanted.now) (finite.entries props.now)))))) }
+    ensures { WritesItem W.Write out.old out.new
+        (Number (length (others_in (revprops_as wanted.now) props.now))) result }
 {
     write_number(out, count_of(wanted, props) as u64)
 }
@@ -158,8 +155,7 @@ fn write_listed<W: Write>(
     wanted: &RevpropsWanted,
     entries: &[(PropName, PropValue)],
 ) -> io::Result<()>
-    ensures { OnOk result (Appends (W.contents out.old) (W.contents out.new)
-        (spell (properties (others_of (revprops_as wanted.now) entries.now)))) }
+    ensures { WritesItem W.Write out.old out.new (properties (others_of (revprops_as wanted.now) entries.now)) result }
 {
     write_open(out)?;
     write_each(out, wanted, entries)?;
@@ -168,19 +164,14 @@ fn write_listed<W: Write>(
 
 // Those of a revision's properties.
 fn write_others<W: Write>(out: &mut W, wanted: &RevpropsWanted, props: &Props) -> io::Result<()>
-    ensures { OnOk result (Appends (W.contents out.old) (W.contents out.new)
-        (spell (properties (others_of (revprops_as wanted.now) (finite.entries props.now))))) }
+    ensures { WritesItem W.Write out.old out.new (properties (others_in (revprops_as wanted.now) props.now)) result }
 {
     write_listed(out, wanted, props.entries())
 }
 
 // The flags behind an entry's message, and its other properties.
 fn write_flags<W: Write>(out: &mut W, wanted: &RevpropsWanted, props: &Props) -> io::Result<()>
-    ensures { OnOk result (Appends (W.contents out.old) (W.contents out.new)
-        (spell_all (row (Word (truth_word false) ∷ Word (truth_word false)
-        ∷ Number (length (others_of (revprops_as wanted.now) (finite.entries props.now)))
-        ∷ properties (others_of (revprops_as wanted.now) (finite.entries props.now))
-        ∷ Word (truth_word false) ∷ [])))) }
+    ensures { WritesItems W.Write out.old out.new (others_told (revprops_as wanted.now) props.now) result }
 {
     write_truth(out, false)?;
     write_truth(out, false)?;
@@ -192,14 +183,7 @@ fn write_flags<W: Write>(out: &mut W, wanted: &RevpropsWanted, props: &Props) ->
 /// What an entry tells of a revision's properties: its author, its date and its message, three flags that are false,
 /// and between them how many other properties there are, and these; of each those that are wanted.
 pub fn write_props<W: Write>(out: &mut W, wanted: &RevpropsWanted, props: &Props) -> io::Result<()>
-    ensures { OnOk result (Appends (W.contents out.old) (W.contents out.new)
-        (spell_all (row (string (value_told (revprops_as wanted.now) props.now (codes "svn:author"))
-        ∷ string (value_told (revprops_as wanted.now) props.now (codes "svn:date"))
-        ∷ string (value_told (revprops_as wanted.now) props.now (codes "svn:log"))
-        ∷ Word (truth_word false) ∷ Word (truth_word false)
-        ∷ Number (length (others_of (revprops_as wanted.now) (finite.entries props.now)))
-        ∷ properties (others_of (revprops_as wanted.now) (finite.entries props.now))
-        ∷ Word (truth_word false) ∷ [])))) }
+    ensures { WritesItems W.Write out.old out.new (revprops_told (revprops_as wanted.now) props.now) result }
 {
     write_usual(out, wanted, props)?;
     write_flags(out, wanted, props)

@@ -1,12 +1,13 @@
 //! The versions of a file.
 
-ghost use Rattle.std.specs.Prelude.{◌≡◌, [], None, unwrap_or, OnOk};
+ghost use Rattle.std.specs.Prelude.{◌≡◌, [], None, unwrap_or};
 ghost use Rattle.std.specs.Option.{option_copied, option_map};
 ghost use Rattle.std.specs.FinMap as finite;
-ghost use Rattle.std.specs.Io.KnownBytes.{Appends};
-ghost use Rattle.ra_item.specs.Items.{spell};
+ghost use Rattle.ra_log.specs.Rows.{head_in, versions_in};
 ghost use Rattle.ra_log.specs.Versions.{prop_item, had, gone_of, gone_told, given_of, given_told, props_told, head_told};
-ghost use Rattle.ra_log.specs.Versions.{windows_told, delta_told, is_same, text_told, props_of, text_of, revision_props, version_told, versions_told};
+ghost use Rattle.ra_log.specs.Versions.{windows_told, delta_told, is_same, text_told, text_behind, props_of, text_of};
+ghost use Rattle.ra_log.specs.Versions.{version_told};
+ghost use Rattle.ra_log.specs.Writing.{Writes, WritesItem};
 
 use crate::rows::LogRows;
 use browse_wire::pieces::write_absolute;
@@ -21,8 +22,7 @@ use std::io::Write;
 
 // A property that has another value, or is gone.
 fn write_prop<W: Write>(out: &mut W, name: &[u8], value: Option<&[u8]>) -> io::Result<()>
-    ensures { OnOk result (Appends (W.contents out.old) (W.contents out.new)
-        (spell (prop_item name.now (option_map (λ v. v.now) value.entry)))) }
+    ensures { WritesItem W.Write out.old out.new (prop_item name.now (option_map (λ v. v.now) value.entry)) result }
 {
     write_open(out)?;
     write_text(out, name)?;
@@ -32,7 +32,7 @@ fn write_prop<W: Write>(out: &mut W, name: &[u8], value: Option<&[u8]>) -> io::R
 
 // A property of a name that is gone.
 fn write_gone_of<W: Write>(out: &mut W, name: &[u8], new: &Props) -> io::Result<()>
-    ensures { OnOk result (Appends (W.contents out.old) (W.contents out.new) (gone_of new.now name.now)) }
+    ensures { Writes W.Write out.old out.new (gone_of new.now name.now) result }
 {
     if new.contains(name) {
         return Ok(());
@@ -46,7 +46,7 @@ fn write_gone<W: Write>(
     entries: &[(PropName, PropValue)],
     new: &Props,
 ) -> io::Result<()>
-    ensures { OnOk result (Appends (W.contents out.old) (W.contents out.new) (gone_told new.now entries.now)) }
+    ensures { Writes W.Write out.old out.new (gone_told new.now entries.now) result }
 {
     let Some((first, others)) = entries.split_first() else {
         return Ok(());
@@ -67,7 +67,7 @@ fn had(old: &Props, name: &[u8], value: &[u8]) -> bool
 
 // A property, where it hadn't that value.
 fn write_given_of<W: Write>(out: &mut W, name: &[u8], value: &[u8], old: &Props) -> io::Result<()>
-    ensures { OnOk result (Appends (W.contents out.old) (W.contents out.new) (given_of old.now name.now value.now)) }
+    ensures { Writes W.Write out.old out.new (given_of old.now name.now value.now) result }
 {
     if had(old, name, value) {
         return Ok(());
@@ -81,7 +81,7 @@ fn write_given<W: Write>(
     entries: &[(PropName, PropValue)],
     old: &Props,
 ) -> io::Result<()>
-    ensures { OnOk result (Appends (W.contents out.old) (W.contents out.new) (given_told old.now entries.now)) }
+    ensures { Writes W.Write out.old out.new (given_told old.now entries.now) result }
 {
     let Some((first, others)) = entries.split_first() else {
         return Ok(());
@@ -92,7 +92,7 @@ fn write_given<W: Write>(
 
 // Which properties of a node are other ones than before.
 fn write_props<W: Write>(out: &mut W, old: &Props, new: &Props) -> io::Result<()>
-    ensures { OnOk result (Appends (W.contents out.old) (W.contents out.new) (props_told old.now new.now)) }
+    ensures { Writes W.Write out.old out.new (props_told old.now new.now) result }
 {
     write_open(out)?;
     write_gone(out, old.entries(), new)?;
@@ -108,8 +108,7 @@ fn write_head<W: Write>(
     old: &Props,
     new: &Props,
 ) -> io::Result<()>
-    ensures { OnOk result (Appends (W.contents out.old) (W.contents out.new)
-        (head_told place.now revision.now old.now new.now)) }
+    ensures { Writes W.Write out.old out.new (head_told place.now revision.now old.now new.now) result }
 {
     write_open(out)?;
     write_absolute(out, &place.path)?;
@@ -122,7 +121,7 @@ fn write_head<W: Write>(
 
 // A text in windows, each a string.
 fn write_windows<W: Write>(out: &mut W, text: &[u8]) -> io::Result<()>
-    ensures { OnOk result (Appends (W.contents out.old) (W.contents out.new) (windows_told text.now)) }
+    ensures { Writes W.Write out.old out.new (windows_told text.now) result }
 {
     let mut rest = text;
     while rest.len() > 0 {
@@ -135,7 +134,7 @@ fn write_windows<W: Write>(out: &mut W, text: &[u8]) -> io::Result<()>
 
 // The same behind the four bytes in front of all windows.
 fn write_delta<W: Write>(out: &mut W, text: &[u8]) -> io::Result<()>
-    ensures { OnOk result (Appends (W.contents out.old) (W.contents out.new) (delta_told text.now)) }
+    ensures { Writes W.Write out.old out.new (delta_told text.now) result }
 {
     write_text(out, b"SVN\x00")?;
     write_windows(out, text)
@@ -153,8 +152,7 @@ fn is_same(old: Option<&[u8]>, new: &[u8]) -> bool
 
 // A text, where it isn't the one before it, and its end.
 fn write_text_told<W: Write>(out: &mut W, old: Option<&[u8]>, new: &[u8]) -> io::Result<()>
-    ensures { OnOk result (Appends (W.contents out.old) (W.contents out.new)
-        (text_told (option_map (λ v. v.now) old.entry) new.now)) }
+    ensures { Writes W.Write out.old out.new (text_told (option_map (λ v. v.now) old.entry) new.now) result }
 {
     if !is_same(old, new) {
         write_delta(out, new)?;
@@ -185,8 +183,8 @@ fn text_of<'a>(node: Option<&'a Node>) -> Option<&'a [u8]>
 
 // A text that may be missing, where it isn't the one before it, and its end.
 fn write_text_if<W: Write>(out: &mut W, old: Option<&[u8]>, new: Option<&[u8]>) -> io::Result<()>
-    ensures { OnOk result (Appends (W.contents out.old) (W.contents out.new)
-        (text_told (option_map (λ v. v.now) old.entry) (unwrap_or (option_map (λ v. v.now) new.entry) []))) }
+    ensures { Writes W.Write out.old out.new
+        (text_told (option_map (λ v. v.now) old.entry) (unwrap_or (option_map (λ v. v.now) new.entry) [])) result }
 {
     match new {
         Some(new) => write_text_told(out, old, new),
@@ -196,8 +194,7 @@ fn write_text_if<W: Write>(out: &mut W, old: Option<&[u8]>, new: Option<&[u8]>) 
 
 // The text of what stands somewhere, by what stood there before.
 fn write_text_of<W: Write>(out: &mut W, old: Option<&Node>, new: Option<&Node>) -> io::Result<()>
-    ensures { OnOk result (Appends (W.contents out.old) (W.contents out.new)
-        (text_told (text_of (option_copied old.entry)) (unwrap_or (text_of (option_copied new.entry)) []))) }
+    ensures { Writes W.Write out.old out.new (text_behind (option_copied old.entry) (option_copied new.entry)) result }
 {
     write_text_if(out, text_of(old), text_of(new))
 }
@@ -210,9 +207,8 @@ fn write_node<W: Write>(
     old: Option<&Node>,
     new: Option<&Node>,
 ) -> io::Result<()>
-    ensures { OnOk result (Appends (W.contents out.old) (W.contents out.new)
-        (head_told place.now (revision_props rows.now.props.items place.now.revision)
-        (props_of (option_copied old.entry)) (props_of (option_copied new.entry)))) }
+    ensures { Writes W.Write out.old out.new
+        (head_in rows.now (option_copied old.entry) (option_copied new.entry) place.now) result }
 {
     let none = Props::empty();
     let revision = rows.props(place.revision).unwrap_or(&none);
@@ -233,8 +229,8 @@ fn write_version<W: Write>(
     old: Option<&Node>,
     new: Option<&Node>,
 ) -> io::Result<()>
-    ensures { OnOk result (Appends (W.contents out.old) (W.contents out.new)
-        (version_told rows.now.props.items (option_copied old.entry) (option_copied new.entry) place.now)) }
+    ensures { Writes W.Write out.old out.new (version_told rows.now.props.items (option_copied old.entry)
+        (option_copied new.entry) place.now) result }
 {
     write_node(out, rows, place, old, new)?;
     write_text_of(out, old, new)
@@ -244,8 +240,7 @@ fn write_version<W: Write>(
 /// which properties of the file are other ones than those of the version before it, and its text where that is another
 /// one than before. `Err` where the writer failed; then some of the bytes may have been written.
 pub fn write_versions<W: Write>(out: &mut W, rows: &LogRows, places: &[Place]) -> io::Result<()>
-    ensures { OnOk result (Appends (W.contents out.old) (W.contents out.new)
-        (versions_told rows.now.props.items rows.now.trees.items None places.now)) }
+    ensures { Writes W.Write out.old out.new (versions_in rows.now places.now) result }
 {
     let mut old = None;
     for place in places {
