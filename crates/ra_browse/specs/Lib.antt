@@ -4,3 +4,5 @@ pub mod Dates
 pub mod Answers
 pub mod Tellings
 pub mod Laws
+pub mod Seeking
+pub mod Writing

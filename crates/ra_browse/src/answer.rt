@@ -3,10 +3,8 @@
 ghost use Rattle.std.specs.Prelude.{◌≡◌, ◌++◌, true, Ok, IfOk};
 ghost use Rattle.std.specs.Option.{option_map};
 ghost use Rattle.std.specs.FinMap as finite;
-ghost use Rattle.std.specs.Io.KnownBytes.{Appends};
 ghost use Rattle.node_base.specs.Path.{Path};
 ghost use Rattle.node_base.specs.Tree.{kind_of};
-ghost use Rattle.ra_item.specs.Items.{spell};
 ghost use Rattle.ra_wire.specs.Commands.{command_as, CheckPath, LatestRev, RevProp, RevProplist};
 ghost use Rattle.ra_wire.specs.Replies.{authorised};
 ghost use Rattle.browse_wire.specs.Asks.{Plain, ask_as};
@@ -14,7 +12,8 @@ ghost use Rattle.browse_wire.specs.AskReading.{ask_in};
 ghost use Rattle.browse_wire.specs.Told.{no_locks};
 ghost use Rattle.browse_wire.specs.Urls.{Url};
 ghost use Rattle.ra_browse.specs.Answers.{behind, is_answered, moved, unanswered};
-ghost use Rattle.ra_browse.specs.Tellings.{place_as, Answers, Tells, PortStays};
+ghost use Rattle.ra_browse.specs.Tellings.{place_as, PortStays};
+ghost use Rattle.ra_browse.specs.Writing.{TellsItem, Replies, AnswersItem};
 
 use crate::dated::get_dated_rev;
 use crate::denial::Denial;
@@ -51,8 +50,7 @@ pub fn answer<P: RepoPort, W: Write + Drop>(
     item: Item,
     out: W,
 ) -> Result<W, ServeFault>
-    ensures told { IfOk result (Answers P.repository P.refusals W.contents (place_as place.old) (ask_in item)
-        port.old port.new out) }
+    ensures told { AnswersItem P.RepoPort W.Write port.old port.new out (place_as place.old) (ask_in item) result }
     ensures moved { IfOk result (λ _. place_as place.new ≡ behind (place_as place.old) (ask_in item)) }
     ensures stays { PortStays P.RepoPort port.old port.new }
 {
@@ -74,8 +72,8 @@ pub fn command_answer<P: RepoPort, W: Write + Drop>(
     command: &BrowseCommand,
     out: W,
 ) -> Result<W, ServeFault>
-    ensures told { IfOk result (Answers P.repository P.refusals W.contents (place_as place.old)
-        (Ok (ask_as command.now)) port.old port.new out) }
+    ensures told { AnswersItem P.RepoPort W.Write port.old port.new out (place_as place.old)
+        (Ok (ask_as command.now)) result }
     ensures moved { IfOk result (λ _. place_as place.new ≡ moved (place_as place.old) (ask_as command.now)) }
     ensures stays { PortStays P.RepoPort port.old port.new }
 {
@@ -94,8 +92,8 @@ fn answered<P: RepoPort, W: Write + Drop>(
     out: W,
 ) -> Result<W, ServeFault>
     requires taken { is_answered (ask_as command.now) ≡ true }
-    ensures told { IfOk result (Answers P.repository P.refusals W.contents (place_as place.old)
-        (Ok (ask_as command.now)) port.old port.new out) }
+    ensures told { AnswersItem P.RepoPort W.Write port.old port.new out (place_as place.old)
+        (Ok (ask_as command.now)) result }
     ensures moved { IfOk result (λ _. place_as place.new ≡ moved (place_as place.old) (ask_as command.now)) }
     ensures stays { PortStays P.RepoPort port.old port.new }
 {
@@ -147,7 +145,7 @@ fn is_plain(command: &Command) -> bool
 
 /// What stands before the answer to a command.
 pub fn authorise<W: Write + Drop>(out: W) -> Result<W, ServeFault>
-    ensures { IfOk result (λ w. Appends (W.contents out) (W.contents w) (spell authorised)) }
+    ensures { TellsItem W.Write out authorised result }
 {
     let mut out = out;
     write_authorised(&mut out)?;
@@ -162,8 +160,7 @@ fn reply<P: RepoPort, W: Write + Drop>(
     command: &BrowseCommand,
     out: W,
 ) -> Result<W, ServeFault>
-    ensures told { IfOk result (Tells P.repository P.refusals W.contents (place_as place.old) (ask_as command.now)
-        port.old port.new out) }
+    ensures told { Replies P.RepoPort W.Write port.old port.new out (place_as place.old) (ask_as command.now) result }
     ensures moved { IfOk result (λ _. place_as place.new ≡ moved (place_as place.old) (ask_as command.now)) }
     ensures stays { PortStays P.RepoPort port.old port.new }
 {
@@ -191,7 +188,7 @@ fn reply<P: RepoPort, W: Write + Drop>(
 
 // Tells that there are no locks.
 fn no_lock<W: Write + Drop>(out: W) -> Result<W, ServeFault>
-    ensures { IfOk result (λ w. Appends (W.contents out) (W.contents w) (spell no_locks)) }
+    ensures { TellsItem W.Write out no_locks result }
 {
     let mut out = out;
     write_no_locks(&mut out)?;
@@ -206,8 +203,8 @@ fn plain<P: RepoPort, W: Write + Drop>(
     command: &Command,
     out: W,
 ) -> Result<W, ServeFault>
-    ensures told { IfOk result (Tells P.repository P.refusals W.contents (place_as place.now)
-        (Plain (command_as command.now)) port.old port.new out) }
+    ensures told { Replies P.RepoPort W.Write port.old port.new out (place_as place.now)
+        (Plain (command_as command.now)) result }
     ensures stays { PortStays P.RepoPort port.old port.new }
 {
     match command {
@@ -234,8 +231,7 @@ fn plain<P: RepoPort, W: Write + Drop>(
 }
 
 fn latest<P: RepoPort, W: Write + Drop>(port: &mut P, out: W) -> Result<W, ServeFault>
-    ensures told { (at : Url) → IfOk result (Tells P.repository P.refusals W.contents at (Plain LatestRev)
-        port.old port.new out) }
+    ensures told { (at : Url) → Replies P.RepoPort W.Write port.old port.new out at (Plain LatestRev) result }
     ensures stays { PortStays P.RepoPort port.old port.new }
 {
     match port.latest() {
@@ -256,8 +252,8 @@ fn check_path<P: RepoPort, W: Write + Drop>(
     number: Option<u64>,
     out: W,
 ) -> Result<W, ServeFault>
-    ensures told { IfOk result (Tells P.repository P.refusals W.contents (place_as place.now)
-        (Plain (CheckPath path.now number)) port.old port.new out) }
+    ensures told { Replies P.RepoPort W.Write port.old port.new out (place_as place.now)
+        (Plain (CheckPath path.now number)) result }
     ensures stays { PortStays P.RepoPort port.old port.new }
 {
     match joined(alloc, &place.path, path) {
@@ -273,8 +269,8 @@ fn tell_kind<P: RepoPort, W: Write + Drop>(
     number: Option<u64>,
     out: W,
 ) -> Result<W, ServeFault>
-    ensures told { (at : Url) (p : Path) → names.now ≡ at.1 ++ p → IfOk result (Tells P.repository P.refusals
-        W.contents at (Plain (CheckPath p number)) port.old port.new out) }
+    ensures told { (at : Url) (p : Path) → names.now ≡ at.1 ++ p → Replies P.RepoPort W.Write port.old port.new out at
+        (Plain (CheckPath p number)) result }
     ensures stays { PortStays P.RepoPort port.old port.new }
 {
     match tree_asked(port, number) {
@@ -302,8 +298,8 @@ fn proplist<P: RepoPort, W: Write + Drop>(
     number: u64,
     out: W,
 ) -> Result<W, ServeFault>
-    ensures told { (at : Url) → IfOk result (Tells P.repository P.refusals W.contents at
-        (Plain (RevProplist number)) port.old port.new out) }
+    ensures told { (at : Url) → Replies P.RepoPort W.Write port.old port.new out at
+        (Plain (RevProplist number)) result }
     ensures stays { PortStays P.RepoPort port.old port.new }
 {
     match props_asked(port, number) {
@@ -322,8 +318,8 @@ fn prop<P: RepoPort, W: Write + Drop>(
     name: &PropName,
     out: W,
 ) -> Result<W, ServeFault>
-    ensures told { (at : Url) → IfOk result (Tells P.repository P.refusals W.contents at
-        (Plain (RevProp number name.now)) port.old port.new out) }
+    ensures told { (at : Url) → Replies P.RepoPort W.Write port.old port.new out at
+        (Plain (RevProp number name.now)) result }
     ensures stays { PortStays P.RepoPort port.old port.new }
 {
     match props_asked(port, number) {

@@ -1,13 +1,15 @@
 //! The revision that a date names.
 
-ghost use Rattle.std.specs.Prelude.{◌≡◌, Some, None, IfOk};
+ghost use Rattle.std.specs.Prelude.{◌≡◌};
 ghost use Rattle.std.specs.Cmp.Lexicographic.{pointwise};
-ghost use Rattle.repo_core.specs.Repository.{Repository, props_at};
+ghost use Rattle.repo_core.specs.Repository.{props_at};
 ghost use Rattle.browse_wire.specs.Asks.{DatedRev};
 ghost use Rattle.browse_wire.specs.Urls.{Url};
 ghost use Rattle.ra_browse.specs.Answers.{dated, dated_denied, no_revision};
 ghost use Rattle.ra_browse.specs.Dates.{fits_in, is_by, is_date, is_later, newest_by};
-ghost use Rattle.ra_browse.specs.Tellings.{Comes, Finds, PortStays, Tells};
+ghost use Rattle.ra_browse.specs.Seeking.{FindsIn};
+ghost use Rattle.ra_browse.specs.Tellings.{Finds, PortStays};
+ghost use Rattle.ra_browse.specs.Writing.{Replies};
 
 use crate::denial::Denial;
 use crate::stop::{Stop, stopped};
@@ -25,8 +27,7 @@ pub fn get_dated_rev<P: RepoPort, W: Write + Drop>(
     date: &[u8],
     out: W,
 ) -> Result<W, ServeFault>
-    ensures told { (at : Url) → IfOk result (Tells P.repository P.refusals W.contents at (DatedRev date.now)
-        port.old port.new out) }
+    ensures told { (at : Url) → Replies P.RepoPort W.Write port.old port.new out at (DatedRev date.now) result }
     ensures stays { PortStays P.RepoPort port.old port.new }
 {
     match find(port, date) {
@@ -56,9 +57,8 @@ fn find<P: RepoPort>(port: &mut P, date: &[u8]) -> Result<RevNo, Stop>
 
 // The same of the revisions up to one that is there.
 fn newest_by<P: RepoPort>(port: &mut P, date: &[u8], last: RevNo) -> Result<RevNo, Stop>
-    ensures found { (x : Repository) → P.repository port.old ≡ Some x → no_revision x last ≡ None
-        → Comes (P.refusals port.old) (P.refusals port.new) None
-        (λ n. n ≡ newest_by (props_at x.revisions) date.now last) result }
+    ensures found { FindsIn P.RepoPort port.old port.new last
+        (λ x n. n ≡ newest_by (props_at x.revisions) date.now last) result }
     ensures stays { PortStays P.RepoPort port.old port.new }
 {
     let mut number = last.get();

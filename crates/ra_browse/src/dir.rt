@@ -1,16 +1,15 @@
 //! Directories that are looked at.
 
-ghost use Rattle.std.specs.Prelude.{◌≡◌, ◌++◌, ◌∷◌, [], None, length, map, unwrap_or, IfOk, OnOk, MatchOption, MatchResult};
-ghost use Rattle.std.specs.FinMap as finite;
-ghost use Rattle.std.specs.Io.KnownBytes.{Appends};
-ghost use Rattle.uuid.specs.Text.{hyphenated_text, lower};
-ghost use Rattle.ra_item.specs.Items.{spell, spell_all, row, Number};
+ghost use Rattle.std.specs.Prelude.{◌≡◌, ◌++◌, [], None, length, map, unwrap_or, MatchResult};
 ghost use Rattle.ra_wire.specs.Answers.{dirent_as};
 ghost use Rattle.ra_wire.specs.Commands.{GetDir};
-ghost use Rattle.ra_wire.specs.Replies.{answer_of, dirent, list, properties};
+ghost use Rattle.ra_wire.specs.Replies.{dirent, list};
 ghost use Rattle.browse_wire.specs.Asks.{Plain};
-ghost use Rattle.ra_browse.specs.Answers.{dir_told, entry_of, entry_with, props_told};
-ghost use Rattle.ra_browse.specs.Tellings.{made_as, place_as, AreEntries, Finds, Tells, PortStays};
+ghost use Rattle.ra_browse.specs.Answers.{entry_of, entry_with};
+ghost use Rattle.ra_browse.specs.Seeking.{FindsEntry};
+ghost use Rattle.ra_browse.specs.Tellings.{made_as, place_as, AreEntries, Finds, PortStays};
+ghost use Rattle.ra_browse.specs.Writing.{TellsBytes, Replies, dir_item, dir_seen};
+ghost use Rattle.ra_log.specs.Writing.{WritesItem, WritesItems};
 
 use crate::denial::Denial;
 use crate::file::Wanted;
@@ -41,8 +40,8 @@ pub fn get_dir<P: RepoPort, W: Write + Drop>(
     wanted: Wanted,
     out: W,
 ) -> Result<W, ServeFault>
-    ensures told { IfOk result (Tells P.repository P.refusals W.contents (place_as place.now)
-        (Plain (GetDir path.now number wanted.props wanted.contents)) port.old port.new out) }
+    ensures told { Replies P.RepoPort W.Write port.old port.new out (place_as place.now)
+        (Plain (GetDir path.now number wanted.props wanted.contents)) result }
     ensures stays { PortStays P.RepoPort port.old port.new }
 {
     let seen = match see(alloc, port, &place.path, path, number) {
@@ -107,9 +106,7 @@ fn next_of<P: RepoPort>(
     port: &mut P,
     children: &mut Children<'_>,
 ) -> Result<Option<Dirent>, Stop>
-    ensures found { Finds P.RepoPort (λ x. None)
-        (λ x r. MatchOption r (map (entry_of x) children.old ≡ [])
-        (λ d. map (entry_of x) children.old ≡ dirent_as d ∷ map (entry_of x) children.new)) port.old port.new result }
+    ensures found { FindsEntry P.RepoPort port.old port.new children.old children.new result }
     ensures stays { PortStays P.RepoPort port.old port.new }
 {
     match children.next() {
@@ -175,9 +172,7 @@ fn tell_dir<W: Write + Drop>(
     entries: &[Dirent],
     out: W,
 ) -> Result<W, ServeFault>
-    ensures { IfOk result (λ w. Appends (W.contents out) (W.contents w)
-        (dir_told seen.now.number props (hyphenated_text lower seen.now.identity) (made_as seen.now.made)
-        (map dirent_as entries.now) (finite.get seen.now.tree seen.now.names.items))) }
+    ensures { TellsBytes W.Write out (dir_seen props seen.now entries.now) result }
 {
     let Some(node) = seen.node() else {
         return deny(Denial::NoPath, out);
@@ -199,10 +194,7 @@ fn write_dir<W: Write>(
     props: bool,
     entries: &[Dirent],
 ) -> io::Result<()>
-    ensures { OnOk result (Appends (W.contents out.old) (W.contents out.new)
-        (spell (answer_of name.now (Number seen.now.number
-        ∷ properties (props_told props (hyphenated_text lower seen.now.identity) node.now (made_as seen.now.made))
-        ∷ list (map dirent (map dirent_as entries.now)) ∷ [])))) }
+    ensures { WritesItem W.Write out.old out.new (dir_item name.now props seen.now node.now entries.now) result }
 {
     write_name(out, name)?;
     write_number(out, u64::from(seen.number.get()))?;
@@ -213,8 +205,7 @@ fn write_dir<W: Write>(
 
 // Entries in brackets.
 fn write_entries<W: Write>(out: &mut W, entries: &[Dirent]) -> io::Result<()>
-    ensures { OnOk result (Appends (W.contents out.old) (W.contents out.new)
-        (spell (list (map dirent (map dirent_as entries.now))))) }
+    ensures { WritesItem W.Write out.old out.new (list (map dirent (map dirent_as entries.now))) result }
 {
     write_open(out)?;
     write_all(out, entries)?;
@@ -223,8 +214,7 @@ fn write_entries<W: Write>(out: &mut W, entries: &[Dirent]) -> io::Result<()>
 
 // Entries one after another.
 fn write_all<W: Write>(out: &mut W, entries: &[Dirent]) -> io::Result<()>
-    ensures { OnOk result (Appends (W.contents out.old) (W.contents out.new)
-        (spell_all (row (map dirent (map dirent_as entries.now))))) }
+    ensures { WritesItems W.Write out.old out.new (map dirent (map dirent_as entries.now)) result }
 {
     for entry in entries {
         write_dirent(out, entry)?;

@@ -1,17 +1,15 @@
 //! Files that are looked at.
 
-ghost use Rattle.std.specs.Prelude.{◌≡◌, ◌++◌, ◌∷◌, [], Some, IfOk, OnOk};
-ghost use Rattle.std.specs.FinMap as finite;
-ghost use Rattle.std.specs.Io.KnownBytes.{Appends};
+ghost use Rattle.std.specs.Prelude.{◌≡◌, ◌++◌, Some};
 ghost use Rattle.hex.specs.Hex.{encode_lower};
 ghost use Rattle.md5.specs.Md5.{md5};
-ghost use Rattle.uuid.specs.Text.{hyphenated_text, lower};
-ghost use Rattle.ra_item.specs.Items.{spell, Number};
 ghost use Rattle.ra_wire.specs.Commands.{GetFile};
-ghost use Rattle.ra_wire.specs.Replies.{answer_of, properties, string};
+ghost use Rattle.ra_wire.specs.Replies.{string};
 ghost use Rattle.browse_wire.specs.Asks.{Plain};
-ghost use Rattle.ra_browse.specs.Answers.{file_found, file_told, file_with, props_told};
-ghost use Rattle.ra_browse.specs.Tellings.{made_as, place_as, Tells, PortStays};
+ghost use Rattle.ra_browse.specs.Answers.{file_found};
+ghost use Rattle.ra_browse.specs.Tellings.{place_as, PortStays};
+ghost use Rattle.ra_browse.specs.Writing.{TellsBytes, Replies, seen_props, file_item, file_body, file_seen};
+ghost use Rattle.ra_log.specs.Writing.{Writes, WritesItem};
 
 use crate::denial::Denial;
 use crate::look::{Seen, see};
@@ -43,8 +41,8 @@ pub fn get_file<P: RepoPort, W: Write + Drop>(
     wanted: Wanted,
     out: W,
 ) -> Result<W, ServeFault>
-    ensures told { IfOk result (Tells P.repository P.refusals W.contents (place_as place.now)
-        (Plain (GetFile path.now number wanted.props wanted.contents)) port.old port.new out) }
+    ensures told { Replies P.RepoPort W.Write port.old port.new out (place_as place.now)
+        (Plain (GetFile path.now number wanted.props wanted.contents)) result }
     ensures stays { PortStays P.RepoPort port.old port.new }
 {
     match see(alloc, port, &place.path, path, number) {
@@ -55,9 +53,7 @@ pub fn get_file<P: RepoPort, W: Write + Drop>(
 
 // Tells of what stands somewhere as of a file.
 fn tell_file<W: Write + Drop>(seen: &Seen, wanted: Wanted, out: W) -> Result<W, ServeFault>
-    ensures { IfOk result (λ w. Appends (W.contents out) (W.contents w)
-        (file_told seen.now.number wanted.props wanted.contents (hyphenated_text lower seen.now.identity)
-        (made_as seen.now.made) (finite.get seen.now.tree seen.now.names.items))) }
+    ensures { TellsBytes W.Write out (file_seen wanted seen.now) result }
 {
     let Some(node) = seen.node() else {
         return deny(Denial::NoPath, out);
@@ -78,9 +74,7 @@ fn write_found<W: Write>(
     text: &Text,
     wanted: Wanted,
 ) -> io::Result<()>
-    ensures { OnOk result (Appends (W.contents out.old) (W.contents out.new)
-        (file_with seen.now.number wanted.props wanted.contents (hyphenated_text lower seen.now.identity)
-        (made_as seen.now.made) node.now text.now)) }
+    ensures { Writes W.Write out.old out.new (file_body wanted seen.now node.now text.now) result }
 {
     write_summed(out, seen, node, text, wanted.props)?;
     write_wanted(out, text.as_slice(), wanted.contents)
@@ -94,9 +88,8 @@ fn write_summed<W: Write>(
     text: &Text,
     props: bool,
 ) -> io::Result<()>
-    ensures { OnOk result (Appends (W.contents out.old) (W.contents out.new)
-        (spell (file_found (encode_lower (md5 text.now)) seen.now.number
-        (props_told props (hyphenated_text lower seen.now.identity) node.now (made_as seen.now.made))))) }
+    ensures { WritesItem W.Write out.old out.new (file_found (encode_lower (md5 text.now)) seen.now.number
+        (seen_props props seen.now node.now)) result }
 {
     let sum = hex_of(text.sum());
     write_file(out, b"success", sum.as_slice(), seen, node, props)
@@ -111,10 +104,7 @@ fn write_file<W: Write>(
     node: &Node,
     props: bool,
 ) -> io::Result<()>
-    ensures { OnOk result (Appends (W.contents out.old) (W.contents out.new)
-        (spell (answer_of name.now (string (Some sum.now) ∷ Number seen.now.number
-        ∷ properties (props_told props (hyphenated_text lower seen.now.identity) node.now (made_as seen.now.made))
-        ∷ [])))) }
+    ensures { WritesItem W.Write out.old out.new (file_item name.now sum.now props seen.now node.now) result }
 {
     write_name(out, name)?;
     write_sum(out, sum)?;
@@ -125,7 +115,7 @@ fn write_file<W: Write>(
 
 // A sum in brackets.
 fn write_sum<W: Write>(out: &mut W, sum: &[u8]) -> io::Result<()>
-    ensures { OnOk result (Appends (W.contents out.old) (W.contents out.new) (spell (string (Some sum.now)))) }
+    ensures { WritesItem W.Write out.old out.new (string (Some sum.now)) result }
 {
     write_open(out)?;
     write_text(out, sum)?;

@@ -1,18 +1,17 @@
 //! Where a node stood in other revisions.
 
-ghost use Rattle.std.specs.Prelude.{◌≡◌, ◌++◌, suc, take, is_none, true, Some, IfOk, IfErr, OnOk};
+ghost use Rattle.std.specs.Prelude.{◌≡◌, ◌++◌, is_none, true, Some, IfOk, IfErr};
 ghost use Rattle.node_base.specs.Limits.{fits};
 ghost use Rattle.std.specs.FinMap as finite;
-ghost use Rattle.std.specs.Io.KnownBytes.{Appends};
 ghost use Rattle.repo_core.specs.Repository.{Repository};
-ghost use Rattle.ra_item.specs.Items.{spell};
-ghost use Rattle.ra_wire.specs.Replies.{done};
 ghost use Rattle.browse_wire.specs.Asks.{Locations};
-ghost use Rattle.browse_wire.specs.Told.{end_item};
 ghost use Rattle.path_history.specs.Places.{place};
 ghost use Rattle.ra_browse.specs.Histories.{newer, newest, places_told};
-ghost use Rattle.ra_browse.specs.Answers.{no_revision, place_denied, stood_denied, locations_denied};
-ghost use Rattle.ra_browse.specs.Tellings.{place_as, Decides, Denies, Finds, PortStays, Tells, IsSought, TellsLocations};
+ghost use Rattle.ra_browse.specs.Answers.{no_revision, stood_denied};
+ghost use Rattle.ra_browse.specs.Seeking.{FindsUpTo, StandsAt, SeeksPlaces, WithSets};
+ghost use Rattle.ra_browse.specs.Tellings.{place_as, Denies, Finds, PortStays, IsSought, TellsLocations};
+ghost use Rattle.ra_browse.specs.Writing.{TellsBytes, Replies, ended};
+ghost use Rattle.ra_log.specs.Writing.{Writes};
 
 use crate::denial::Denial;
 use crate::stop::{Stop, stopped};
@@ -48,8 +47,8 @@ pub fn get_locations<P: RepoPort, W: Write + Drop>(
     numbers: &[u64],
     out: W,
 ) -> Result<W, ServeFault>
-    ensures told { IfOk result (Tells P.repository P.refusals W.contents (place_as place.now)
-        (Locations path.now peg numbers.now) port.old port.new out) }
+    ensures told { Replies P.RepoPort W.Write port.old port.new out (place_as place.now)
+        (Locations path.now peg numbers.now) result }
     ensures stays { PortStays P.RepoPort port.old port.new }
 {
     match seek(alloc, port, &place.path, path, peg, numbers) {
@@ -67,8 +66,7 @@ fn seek<P: RepoPort>(
     peg: u64,
     numbers: &[u64],
 ) -> Result<Sought, Stop>
-    ensures found { Finds P.RepoPort (λ x. locations_denied x (base.now ++ path.now) peg numbers.now)
-        (λ x s. IsSought x (place peg (base.now ++ path.now)) numbers.now s) port.old port.new result }
+    ensures found { SeeksPlaces P.RepoPort port.old port.new (base.now ++ path.now) peg numbers.now result }
     ensures stays { PortStays P.RepoPort port.old port.new }
 {
     match stood(alloc, port, base, path, peg) {
@@ -124,8 +122,7 @@ pub fn place_in(
     base: &NodePath,
     path: &NodePath,
 ) -> Result<Place, Stop>
-    ensures { Decides (place_denied (base.now ++ path.now) (finite.get tree.now (base.now ++ path.now)))
-        (λ a. a ≡ place revision (base.now ++ path.now)) result }
+    ensures { StandsAt tree.now (base.now ++ path.now) (place revision (base.now ++ path.now)) result }
 {
     match path_in(alloc, tree, base, path) {
         Ok(path) => Ok(Place { path, revision }),
@@ -135,8 +132,7 @@ pub fn place_in(
 
 // A path behind another, where something stands there.
 fn path_in(alloc: Global, tree: &Tree, base: &NodePath, path: &NodePath) -> Result<NodePath, Stop>
-    ensures { Decides (place_denied (base.now ++ path.now) (finite.get tree.now (base.now ++ path.now)))
-        (λ p. p ≡ base.now ++ path.now) result }
+    ensures { StandsAt tree.now (base.now ++ path.now) (base.now ++ path.now) result }
 {
     let whole = match joined(alloc, base, path.names()) {
         Ok(whole) => whole,
@@ -164,9 +160,7 @@ fn reached<P: RepoPort>(
     peg: RevNo,
     numbers: &[u64],
 ) -> Result<(Vec<RevNo>, Vec<ChangeSet>), Stop>
-    ensures found { Finds P.RepoPort (λ x. no_revision x (newest peg numbers.now))
-        (λ x r. (r.0.items ≡ numbers.now) × (r.1.items ≡ take (suc (newest peg numbers.now)) x.sets))
-        port.old port.new result }
+    ensures found { WithSets P.RepoPort port.old port.new (newest peg numbers.now) numbers.now result }
     ensures stays { PortStays P.RepoPort port.old port.new }
 {
     match revisions(alloc, port, peg, numbers) {
@@ -182,8 +176,7 @@ fn with_sets<P: RepoPort>(
     last: RevNo,
     numbers: Vec<RevNo>,
 ) -> Result<(Vec<RevNo>, Vec<ChangeSet>), Stop>
-    ensures found { Finds P.RepoPort (λ x. no_revision x last)
-        (λ x r. (r.0.items ≡ numbers.items) × (r.1.items ≡ take (suc last) x.sets)) port.old port.new result }
+    ensures found { WithSets P.RepoPort port.old port.new last numbers.items result }
     ensures stays { PortStays P.RepoPort port.old port.new }
 {
     match shared(alloc, port, last) {
@@ -228,8 +221,7 @@ pub fn newer(one: RevNo, other: RevNo) -> RevNo
 
 /// The sets of the revisions from 0 up to one.
 pub fn shared<P: RepoPort>(alloc: Global, port: &mut P, last: RevNo) -> Result<Vec<ChangeSet>, Stop>
-    ensures found { Finds P.RepoPort (λ x. no_revision x last)
-        (λ x v. v.items ≡ take (suc last) x.sets) port.old port.new result }
+    ensures found { FindsUpTo P.RepoPort port.old port.new last (λ x. x.sets) result }
     ensures stays { PortStays P.RepoPort port.old port.new }
 {
     match sets_up_to(alloc, port, last) {
@@ -253,8 +245,7 @@ fn tell_sought<W: Write + Drop>(alloc: Global, sought: &Sought, out: W) -> Resul
 
 // Tells places, and that they are all.
 fn tell_places<W: Write + Drop>(places: &[Place], out: W) -> Result<W, ServeFault>
-    ensures { IfOk result (λ w. Appends (W.contents out) (W.contents w)
-        ((places_told places.now ++ spell end_item) ++ spell done)) }
+    ensures { TellsBytes W.Write out (ended (places_told places.now)) result }
 {
     let mut out = out;
     write_places(&mut out, places)?;
@@ -264,7 +255,7 @@ fn tell_places<W: Write + Drop>(places: &[Place], out: W) -> Result<W, ServeFaul
 }
 
 fn write_places<W: Write>(out: &mut W, places: &[Place]) -> io::Result<()>
-    ensures { OnOk result (Appends (W.contents out.old) (W.contents out.new) (places_told places.now)) }
+    ensures { Writes W.Write out.old out.new (places_told places.now) result }
 {
     for place in places {
         write_location(out, u64::from(place.revision.get()), &place.path)?;

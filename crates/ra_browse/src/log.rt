@@ -1,21 +1,20 @@
 //! Which revisions changed some paths.
 
-ghost use Rattle.std.specs.Prelude.{◌≡◌, ◌++◌, ◌∷◌, suc, take, map, [], None, Some, IfOk, IfErr, if◌then◌else◌};
-ghost use Rattle.std.specs.Io.KnownBytes.{Appends, Keeps};
+ghost use Rattle.std.specs.Prelude.{◌≡◌, ◌++◌, ◌∷◌, suc, take, map, [], Some, IfOk, if◌then◌else◌};
+ghost use Rattle.std.specs.Io.KnownBytes.{Keeps};
 ghost use Rattle.std.specs.Io.Buffered.{writer_contents};
 ghost use Rattle.repo_core.specs.Repository.{Repository, trees_of};
-ghost use Rattle.ra_item.specs.Items.{spell};
-ghost use Rattle.ra_wire.specs.Replies.{done};
 ghost use Rattle.browse_wire.specs.Asks.{Log};
-ghost use Rattle.browse_wire.specs.Told.{end_item};
-ghost use Rattle.path_history.specs.Places.{place};
 ghost use Rattle.ra_serve.specs.Answers.{asked};
-ghost use Rattle.ra_serve.specs.Ports as ports;
 ghost use Rattle.ra_history.specs.Rows.{props_of};
-ghost use Rattle.ra_log.specs.Entries.{log_as, entries_told};
-ghost use Rattle.ra_browse.specs.Histories.{newer, newest_logged, range_of, range_logged, paths_below};
-ghost use Rattle.ra_browse.specs.Answers.{no_revision, paths_denied, logged_denied, log_denied};
-ghost use Rattle.ra_browse.specs.Tellings.{place_as, Comes, Decides, Finds, PortStays, Tells, AreRows, IsLogSought, TellsLogged};
+ghost use Rattle.ra_log.specs.Entries.{log_as};
+ghost use Rattle.ra_log.specs.Rows.{entries_in};
+ghost use Rattle.ra_browse.specs.Histories.{paths_below};
+ghost use Rattle.ra_browse.specs.Answers.{no_revision};
+ghost use Rattle.ra_browse.specs.Seeking.{FindsUpTo, FindsIn, RefusesEnds, AllStandAt, FindsPlacesAt};
+ghost use Rattle.ra_browse.specs.Seeking.{SeeksLog, SeeksLogBetween, SeeksLogOf};
+ghost use Rattle.ra_browse.specs.Tellings.{place_as, Finds, PortStays, AreRows, TellsLogged};
+ghost use Rattle.ra_browse.specs.Writing.{TellsBytes, Replies, ended};
 
 use crate::denial::Denial;
 use crate::location::{newer, place_in, shared};
@@ -53,8 +52,8 @@ pub fn get_log<P: RepoPort, W: Write + Drop>(
     order: &LogOrder,
     out: W,
 ) -> Result<W, ServeFault>
-    ensures told { IfOk result (Tells P.repository P.refusals W.contents (place_as place.now)
-        (Log (log_as order.now)) port.old port.new out) }
+    ensures told { Replies P.RepoPort W.Write port.old port.new out (place_as place.now)
+        (Log (log_as order.now)) result }
     ensures stays { PortStays P.RepoPort port.old port.new }
 {
     match seek(alloc, port, &place.path, order) {
@@ -70,9 +69,7 @@ fn seek<P: RepoPort>(
     base: &NodePath,
     order: &LogOrder,
 ) -> Result<LogSought, Stop>
-    ensures found { Finds P.RepoPort (λ x. log_denied x base.now (log_as order.now))
-        (λ x s. IsLogSought x (newest_logged x (log_as order.now)) base.now (log_as order.now)
-        (range_logged x (log_as order.now)) s) port.old port.new result }
+    ensures found { SeeksLog P.RepoPort port.old port.new base.now order.now result }
     ensures stays { PortStays P.RepoPort port.old port.new }
 {
     match ends(port, order.start, order.end) {
@@ -89,9 +86,7 @@ pub fn ends<P: RepoPort>(
 ) -> Result<(RevNo, RevNo), PortFault>
     ensures first { (x : Repository) → P.repository port.old ≡ Some x → IfOk result (λ r. r.0 ≡ asked x start) }
     ensures last { (x : Repository) → P.repository port.old ≡ Some x → IfOk result (λ r. r.1 ≡ asked x end) }
-    ensures refused { (x : Repository) → P.repository port.old ≡ Some x
-        → IfErr result (λ f. ports.MayRefuse (P.refusals port.old) (P.refusals port.new) f
-        (ports.no_revision x (newer (asked x start) (asked x end)))) }
+    ensures refused { RefusesEnds P.RepoPort port.old port.new start end result }
     ensures stays { PortStays P.RepoPort port.old port.new }
 {
     let first = match asked(port, start) {
@@ -113,10 +108,7 @@ fn seek_between<P: RepoPort>(
     first: RevNo,
     last: RevNo,
 ) -> Result<LogSought, Stop>
-    ensures found { Finds P.RepoPort
-        (λ x. logged_denied x (newer first last) (paths_below base.now order.now.paths.items))
-        (λ x s. IsLogSought x (newer first last) base.now (log_as order.now) (range_of first last (log_as order.now)) s)
-        port.old port.new result }
+    ensures found { SeeksLogBetween P.RepoPort port.old port.new base.now order.now first last result }
     ensures stays { PortStays P.RepoPort port.old port.new }
 {
     let highest = newer(first, last);
@@ -142,8 +134,7 @@ fn places_at<P: RepoPort>(
     paths: &[NodePath],
     number: RevNo,
 ) -> Result<Vec<Place>, Stop>
-    ensures found { Finds P.RepoPort (λ x. logged_denied x number (paths_below base.now paths.now))
-        (λ x v. v.items ≡ map (place number) (paths_below base.now paths.now)) port.old port.new result }
+    ensures found { FindsPlacesAt P.RepoPort port.old port.new number (paths_below base.now paths.now) result }
     ensures stays { PortStays P.RepoPort port.old port.new }
 {
     match port.tree(number) {
@@ -160,8 +151,7 @@ fn places_in(
     base: &NodePath,
     paths: &[NodePath],
 ) -> Result<Vec<Place>, Stop>
-    ensures { Decides (paths_denied tree.now (paths_below base.now paths.now))
-        (λ v. v.items ≡ map (place number) (paths_below base.now paths.now)) result }
+    ensures { AllStandAt tree.now number (paths_below base.now paths.now) result }
 {
     if paths.is_empty() {
         return root_in(alloc, tree, number);
@@ -171,7 +161,7 @@ fn places_in(
 
 // The same of the root alone.
 fn root_in(alloc: Global, tree: &Tree, number: RevNo) -> Result<Vec<Place>, Stop>
-    ensures { Decides (paths_denied tree.now ([] ∷ [])) (λ v. v.items ≡ place number [] ∷ []) result }
+    ensures { AllStandAt tree.now number ([] ∷ []) result }
 {
     let root = NodePath::root(alloc);
     let next = match place_in(alloc, tree, number, &root, &root) {
@@ -193,8 +183,7 @@ fn each_in(
     base: &NodePath,
     paths: &[NodePath],
 ) -> Result<Vec<Place>, Stop>
-    ensures { Decides (paths_denied tree.now (map (λ q. base.now ++ q) paths.now))
-        (λ v. v.items ≡ map (place number) (map (λ q. base.now ++ q) paths.now)) result }
+    ensures { AllStandAt tree.now number (map (λ q. base.now ++ q) paths.now) result }
 {
     let mut places = Vec::new(alloc);
     for path in paths {
@@ -218,9 +207,7 @@ fn with_rows<P: RepoPort>(
     range: LogRange,
     places: Vec<Place>,
 ) -> Result<LogSought, Stop>
-    ensures found { Finds P.RepoPort (λ x. no_revision x last)
-        (λ x s. (s.places.items ≡ places.items) × (s.range ≡ range) × AreRows x last wanted s.rows)
-        port.old port.new result }
+    ensures found { SeeksLogOf P.RepoPort port.old port.new last wanted range places.items result }
     ensures stays { PortStays P.RepoPort port.old port.new }
 {
     match rows_at(alloc, port, last, wanted) {
@@ -260,8 +247,7 @@ pub fn rows_at<P: RepoPort>(
 
 // The properties of the revisions from 0 up to one.
 fn shared_props<P: RepoPort>(alloc: Global, port: &mut P, last: RevNo) -> Result<Vec<Props>, Stop>
-    ensures found { Finds P.RepoPort (λ x. no_revision x last)
-        (λ x v. v.items ≡ take (suc last) (props_of x.revisions)) port.old port.new result }
+    ensures found { FindsUpTo P.RepoPort port.old port.new last (λ x. props_of x.revisions) result }
     ensures stays { PortStays P.RepoPort port.old port.new }
 {
     match props_up_to(alloc, port, last) {
@@ -273,8 +259,7 @@ fn shared_props<P: RepoPort>(alloc: Global, port: &mut P, last: RevNo) -> Result
 
 // Their trees.
 fn all_trees<P: RepoPort>(alloc: Global, port: &mut P, last: RevNo) -> Result<Vec<Tree>, Stop>
-    ensures found { Finds P.RepoPort (λ x. no_revision x last)
-        (λ x v. v.items ≡ take (suc last) (trees_of x.revisions)) port.old port.new result }
+    ensures found { FindsUpTo P.RepoPort port.old port.new last (λ x. trees_of x.revisions) result }
     ensures stays { PortStays P.RepoPort port.old port.new }
 {
     match trees_up_to(alloc, port, last) {
@@ -291,9 +276,8 @@ fn shared_trees<P: RepoPort>(
     last: RevNo,
     wanted: bool,
 ) -> Result<Vec<Tree>, Stop>
-    ensures found { (x : Repository) → P.repository port.old ≡ Some x → no_revision x last ≡ None
-        → Comes (P.refusals port.old) (P.refusals port.new) None
-        (λ v. v.items ≡ (if wanted then take (suc last) (trees_of x.revisions) else [])) result }
+    ensures found { FindsIn P.RepoPort port.old port.new last
+        (λ x v. v.items ≡ (if wanted then take (suc last) (trees_of x.revisions) else [])) result }
     ensures stays { PortStays P.RepoPort port.old port.new }
 {
     if wanted {
@@ -329,9 +313,7 @@ fn tell_entries<W: Write + Drop>(
     numbers: &[u16],
     out: W,
 ) -> Result<W, ServeFault>
-    ensures { IfOk result (λ w. Appends (W.contents out) (W.contents w)
-        ((entries_told (log_as order.now) rows.now.sets.items rows.now.props.items rows.now.trees.items numbers.now
-        ++ spell end_item) ++ spell done)) }
+    ensures { TellsBytes W.Write out (ended (entries_in (log_as order.now) rows.now numbers.now)) result }
 {
     let Ok(kept) = BufWriter::with_capacity(alloc, ROOM, out) else {
         return Err(ServeFault::OutOfMemory);
@@ -360,9 +342,7 @@ fn tell_pieces<W: Write + Drop>(
     numbers: &[u16],
     out: W,
 ) -> Result<W, ServeFault>
-    ensures { IfOk result (λ w. Appends (W.contents out) (W.contents w)
-        ((entries_told (log_as order.now) rows.now.sets.items rows.now.props.items rows.now.trees.items numbers.now
-        ++ spell end_item) ++ spell done)) }
+    ensures { TellsBytes W.Write out (ended (entries_in (log_as order.now) rows.now numbers.now)) result }
 {
     let mut out = out;
     write_entries(alloc, &mut out, order, rows, numbers)?;

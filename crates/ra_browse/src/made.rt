@@ -1,10 +1,11 @@
 //! When a revision was made, and by whom.
 
-ghost use Rattle.std.specs.Prelude.{◌≡◌, ◌≢◌, None, IfOk, MatchResult};
+ghost use Rattle.std.specs.Prelude.{◌≡◌, None, IfOk, MatchResult};
 ghost use Rattle.std.specs.Option.{option_map};
 ghost use Rattle.std.specs.FinMap as finite;
 ghost use Rattle.repo_core.specs.Repository.{Repository};
 ghost use Rattle.ra_browse.specs.Answers.{made_of, made_in, date_told};
+ghost use Rattle.ra_browse.specs.Seeking.{IsUnmade};
 ghost use Rattle.ra_browse.specs.Tellings.{made_as, Finds, PortStays};
 
 use crate::stop::Stop;
@@ -33,8 +34,7 @@ impl Made {
 
 /// The same of a revision. A revision that isn't there has neither.
 pub fn made_at<P: RepoPort>(alloc: Global, port: &mut P, number: RevNo) -> Result<Made, Stop>
-    ensures found { Finds P.RepoPort (λ x. None) (λ x m. made_as m ≡ made_of x number)
-        port.old port.new result }
+    ensures found { Finds P.RepoPort (λ x. None) (λ x m. made_as m ≡ made_of x number) port.old port.new result }
     ensures stays { PortStays P.RepoPort port.old port.new }
 {
     match port.props(number) {
@@ -45,8 +45,7 @@ pub fn made_at<P: RepoPort>(alloc: Global, port: &mut P, number: RevNo) -> Resul
 
 // The same where a port refused to tell the properties.
 fn unmade(fault: PortFault) -> Result<Made, Stop>
-    ensures { MatchResult result (λ m. (fault ≡ PortFault.NoSuchRevision) × (made_as m ≡ made_in finite.empty))
-        (λ s. (fault ≢ PortFault.NoSuchRevision) × (s ≡ Stop.Port fault)) }
+    ensures { IsUnmade fault result }
 {
     match fault {
         PortFault::NoSuchRevision => Ok(Made::unknown()),

@@ -2,15 +2,14 @@
 //!
 //! Each `Err` is the writer's own; then some of the bytes may have been written.
 
-ghost use Rattle.std.specs.Prelude.{map, true, OnOk};
+ghost use Rattle.std.specs.Prelude.{map, true};
 ghost use Rattle.std.specs.Option.{option_map};
 ghost use Rattle.std.specs.Fmt.{decimal};
-ghost use Rattle.std.specs.Io.KnownBytes.{Appends};
 ghost use Rattle.uuid.specs.Text.{hyphenated_text, lower};
-ghost use Rattle.ra_item.specs.Items.{spell, spell_all, row};
 ghost use Rattle.ra_wire.specs.Replies.{property, properties};
-ghost use Rattle.ra_browse.specs.Answers.{perhaps, entry_props, props_told};
-ghost use Rattle.ra_browse.specs.Tellings.{made_as};
+ghost use Rattle.ra_browse.specs.Answers.{perhaps};
+ghost use Rattle.ra_browse.specs.Writing.{added_props, node_props};
+ghost use Rattle.ra_log.specs.Writing.{WritesItem, WritesItems};
 
 use crate::made::Made;
 use itoa::Buffer;
@@ -23,8 +22,8 @@ use uuid::Uuid;
 
 // A property that may be missing.
 fn write_perhaps<W: Write>(out: &mut W, name: &[u8], value: &Option<Vec<u8>>) -> io::Result<()>
-    ensures { OnOk result (Appends (W.contents out.old) (W.contents out.new)
-        (spell_all (row (map property (perhaps name.now (option_map (λ t. t.items) value.now)))))) }
+    ensures { WritesItems W.Write out.old out.new
+        (map property (perhaps name.now (option_map (λ t. t.items) value.now))) result }
 {
     match value {
         Some(value) => write_property(out, name, value.as_slice()),
@@ -34,8 +33,7 @@ fn write_perhaps<W: Write>(out: &mut W, name: &[u8], value: &Option<Vec<u8>>) ->
 
 // The revision that last changed a node.
 fn write_changed<W: Write>(out: &mut W, name: &[u8], number: u64) -> io::Result<()>
-    ensures { OnOk result (Appends (W.contents out.old) (W.contents out.new)
-        (spell (property (name.now, decimal number)))) }
+    ensures { WritesItem W.Write out.old out.new (property (name.now, decimal number)) result }
 {
     let mut digits = Buffer::new();
     write_property(out, name, digits.format(number).as_bytes())
@@ -43,8 +41,7 @@ fn write_changed<W: Write>(out: &mut W, name: &[u8], number: u64) -> io::Result<
 
 // A repository's identity.
 fn write_identity<W: Write>(out: &mut W, name: &[u8], identity: &Uuid) -> io::Result<()>
-    ensures { OnOk result (Appends (W.contents out.old) (W.contents out.new)
-        (spell (property (name.now, hyphenated_text lower identity.now)))) }
+    ensures { WritesItem W.Write out.old out.new (property (name.now, hyphenated_text lower identity.now)) result }
 {
     let mut buffer = Uuid::encode_buffer();
     let text = identity.hyphenated().encode_lower(&mut buffer);
@@ -53,9 +50,7 @@ fn write_identity<W: Write>(out: &mut W, name: &[u8], identity: &Uuid) -> io::Re
 
 // What is told as properties beside a node's own.
 fn write_entry<W: Write>(out: &mut W, node: &Node, made: &Made, identity: &Uuid) -> io::Result<()>
-    ensures { OnOk result (Appends (W.contents out.old) (W.contents out.new)
-        (spell_all (row (map property (entry_props (hyphenated_text lower identity.now) node.now
-        (made_as made.now)))))) }
+    ensures { WritesItems W.Write out.old out.new (map property (added_props identity.now node.now made.now)) result }
 {
     let Made { date, author } = made;
     write_changed(
@@ -76,9 +71,8 @@ pub fn write_props<W: Write>(
     made: &Made,
     identity: &Uuid,
 ) -> io::Result<()>
-    ensures { OnOk result (Appends (W.contents out.old) (W.contents out.new)
-        (spell (properties (props_told wanted (hyphenated_text lower identity.now) node.now
-        (made_as made.now))))) }
+    ensures { WritesItem W.Write out.old out.new
+        (properties (node_props wanted identity.now node.now made.now)) result }
 {
     if wanted {
         write_wanted(out, node, made, identity)
@@ -89,8 +83,7 @@ pub fn write_props<W: Write>(
 
 // The same where they are wanted.
 fn write_wanted<W: Write>(out: &mut W, node: &Node, made: &Made, identity: &Uuid) -> io::Result<()>
-    ensures { OnOk result (Appends (W.contents out.old) (W.contents out.new)
-        (spell (properties (props_told true (hyphenated_text lower identity.now) node.now (made_as made.now))))) }
+    ensures { WritesItem W.Write out.old out.new (properties (node_props true identity.now node.now made.now)) result }
 {
     write_open(out)?;
     write_entries(out, node.props.entries())?;

@@ -1,13 +1,13 @@
 //! Where a session stands.
 
 ghost use Rattle.std.specs.Prelude.{◌≡◌, None, IfOk, IfErr};
-ghost use Rattle.std.specs.Io.KnownBytes.{Appends};
 ghost use Rattle.ra_item.specs.Items.{spell};
 ghost use Rattle.ra_wire.specs.Replies.{done};
 ghost use Rattle.browse_wire.specs.Urls.{url_read};
 ghost use Rattle.ra_browse.specs.Answers.{url_denied, moved_to};
 ghost use Rattle.ra_browse.specs.Denials.{unless_denied};
 ghost use Rattle.ra_browse.specs.Tellings.{place_as, url_stop, MayMove};
+ghost use Rattle.ra_browse.specs.Writing.{TellsBytes};
 
 use crate::denial::Denial;
 use crate::stop::Stop;
@@ -25,8 +25,8 @@ pub fn reparent<W: Write + Drop>(
     url: &[u8],
     out: W,
 ) -> Result<W, ServeFault>
-    ensures told { IfOk result (λ w. Appends (W.contents out) (W.contents w)
-        (unless_denied (url_denied (place_as place.old) (url_read url.now)) (spell done))) }
+    ensures told { TellsBytes W.Write out (unless_denied (url_denied (place_as place.old) (url_read url.now))
+        (spell done)) result }
     ensures moved { IfOk result (λ _. place_as place.new ≡ moved_to (place_as place.old) (url_read url.now)) }
 {
     match step(alloc, place, url) {

@@ -2,13 +2,11 @@
 
 ghost use Rattle.std.specs.Prelude.{◌≡◌, IfOk};
 ghost use Rattle.std.specs.Option.{option_copied};
-ghost use Rattle.std.specs.FinMap as finite;
-ghost use Rattle.std.specs.Io.KnownBytes.{Appends};
-ghost use Rattle.ra_item.specs.Items.{spell};
 ghost use Rattle.browse_wire.specs.Asks.{Stat};
 ghost use Rattle.browse_wire.specs.Told.{stat_answer};
 ghost use Rattle.ra_browse.specs.Answers.{size_told, stat_told};
-ghost use Rattle.ra_browse.specs.Tellings.{made_as, place_as, Tells, PortStays};
+ghost use Rattle.ra_browse.specs.Tellings.{made_as, place_as, PortStays};
+ghost use Rattle.ra_browse.specs.Writing.{TellsItem, Replies, seen_node};
 
 use crate::look::{Seen, see};
 use crate::made::{Made, date_told};
@@ -29,8 +27,7 @@ pub fn stat<P: RepoPort, W: Write + Drop>(
     number: Option<u64>,
     out: W,
 ) -> Result<W, ServeFault>
-    ensures told { IfOk result (Tells P.repository P.refusals W.contents (place_as place.now) (Stat path.now number)
-        port.old port.new out) }
+    ensures told { Replies P.RepoPort W.Write port.old port.new out (place_as place.now) (Stat path.now number) result }
     ensures stays { PortStays P.RepoPort port.old port.new }
 {
     match see(alloc, port, &place.path, path, number) {
@@ -41,8 +38,7 @@ pub fn stat<P: RepoPort, W: Write + Drop>(
 
 // Tells of what stands somewhere, or that nothing does.
 fn tell_stat<W: Write + Drop>(alloc: Global, seen: Seen, out: W) -> Result<W, ServeFault>
-    ensures { IfOk result (λ w. Appends (W.contents out) (W.contents w)
-        (spell (stat_told (finite.get seen.tree seen.names.items) (made_as seen.made)))) }
+    ensures { TellsItem W.Write out (stat_told (seen_node seen) (made_as seen.made)) result }
 {
     let Seen {
         tree,
@@ -57,7 +53,7 @@ fn tell_stat<W: Write + Drop>(alloc: Global, seen: Seen, out: W) -> Result<W, Se
 }
 
 fn tell_info<W: Write + Drop>(info: &Option<NodeInfo>, out: W) -> Result<W, ServeFault>
-    ensures { IfOk result (λ w. Appends (W.contents out) (W.contents w) (spell (stat_answer info.now))) }
+    ensures { TellsItem W.Write out (stat_answer info.now) result }
 {
     let mut out = out;
     write_stat(&mut out, info)?;

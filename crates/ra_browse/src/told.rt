@@ -1,15 +1,16 @@
 //! Why a command isn't answered, as it is told.
 
-ghost use Rattle.std.specs.Prelude.{◌≡◌, IfOk, OnOk, ◌∷◌, []};
-ghost use Rattle.std.specs.Io.KnownBytes.{Appends};
+ghost use Rattle.std.specs.Prelude.{◌≡◌, IfOk, ◌∷◌, []};
 ghost use Rattle.node_base.specs.declared.refusal.Refusal.{Refusal};
-ghost use Rattle.ra_item.specs.Items.{spell, Number, Text};
-ghost use Rattle.ra_wire.specs.Replies.{answer_of, list, failure};
+ghost use Rattle.ra_item.specs.Items.{spell};
+ghost use Rattle.ra_wire.specs.Replies.{answer_of, failure};
 ghost use Rattle.ra_serve.specs.Answers.{refused};
 ghost use Rattle.ra_serve.specs.Ports.{refusal_of};
 ghost use Rattle.ra_browse.specs.Denials.{denied};
 ghost use Rattle.browse_wire.specs.Told.{end_item};
 ghost use Rattle.ra_browse.specs.Tellings.{TellsBehind, TellsStop};
+ghost use Rattle.ra_browse.specs.Writing.{TellsBytes, cause_item};
+ghost use Rattle.ra_log.specs.Writing.{WritesItem};
 
 use crate::denial::Denial;
 use crate::stop::Stop;
@@ -23,7 +24,7 @@ use std::io::Write;
 
 /// Tells what is denied.
 pub fn deny<W: Write + Drop>(why: Denial, out: W) -> Result<W, ServeFault>
-    ensures { IfOk result (λ w. Appends (W.contents out) (W.contents w) (denied why)) }
+    ensures { TellsBytes W.Write out (denied why) result }
 {
     let mut out = out;
     write_denied(&mut out, why.number(), why.text())?;
@@ -52,7 +53,7 @@ pub fn tell_behind_last<W: Write + Drop>(stop: Stop, out: W) -> Result<W, ServeF
 
 // Tells a refusal of the port.
 fn refuse<W: Write + Drop>(fault: PortFault, out: W) -> Result<W, ServeFault>
-    ensures { IfOk result (λ w. Appends (W.contents out) (W.contents w) (refused (refusal_of fault))) }
+    ensures { TellsBytes W.Write out (refused (refusal_of fault)) result }
 {
     let mut out = out;
     write_failure(&mut out, fault.number(), fault.text())?;
@@ -61,15 +62,14 @@ fn refuse<W: Write + Drop>(fault: PortFault, out: W) -> Result<W, ServeFault>
 
 /// A failure, by its number and text.
 pub fn write_denied<W: Write>(out: &mut W, n: u64, text: &[u8]) -> io::Result<()>
-    ensures { OnOk result (Appends (W.contents out.old) (W.contents out.new) (spell (failure n text.now))) }
+    ensures { WritesItem W.Write out.old out.new (failure n text.now) result }
 {
     write_failed(out, b"failure", n, text)
 }
 
 // The same with the answer's name.
 fn write_failed<W: Write>(out: &mut W, name: &[u8], n: u64, text: &[u8]) -> io::Result<()>
-    ensures { OnOk result (Appends (W.contents out.old) (W.contents out.new)
-        (spell (answer_of name.now (list (Number n ∷ Text text.now ∷ Text [] ∷ Number 0 ∷ []) ∷ [])))) }
+    ensures { WritesItem W.Write out.old out.new (answer_of name.now (cause_item n text.now ∷ [])) result }
 {
     write_name(out, name)?;
     write_cause(out, n, text)?;
@@ -78,8 +78,7 @@ fn write_failed<W: Write>(out: &mut W, name: &[u8], n: u64, text: &[u8]) -> io::
 
 // A number and a text, with no file and no line.
 fn write_cause<W: Write>(out: &mut W, n: u64, text: &[u8]) -> io::Result<()>
-    ensures { OnOk result (Appends (W.contents out.old) (W.contents out.new)
-        (spell (list (Number n ∷ Text text.now ∷ Text [] ∷ Number 0 ∷ [])))) }
+    ensures { WritesItem W.Write out.old out.new (cause_item n text.now) result }
 {
     write_open(out)?;
     write_number(out, n)?;

@@ -1,20 +1,17 @@
 //! The versions of a file.
 
-ghost use Rattle.std.specs.Prelude.{◌≡◌, ◌++◌, Bool, take, reverse, None, is_none, true, IfOk, IfErr};
+ghost use Rattle.std.specs.Prelude.{◌≡◌, ◌++◌, Bool, take, reverse, is_none, true, IfOk, IfErr};
 ghost use Rattle.std.specs.FinMap as finite;
-ghost use Rattle.std.specs.Io.KnownBytes.{Appends};
-ghost use Rattle.ra_item.specs.Items.{spell};
-ghost use Rattle.ra_wire.specs.Replies.{done};
 ghost use Rattle.browse_wire.specs.Asks.{FileRevs};
-ghost use Rattle.browse_wire.specs.Told.{end_item};
 ghost use Rattle.path_history.specs.Histories.{IsTooLong};
-ghost use Rattle.path_history.specs.Places.{place};
 ghost use Rattle.path_history.specs.declared.fault.HistoryFault.TheVariants.{TooLong};
-ghost use Rattle.ra_serve.specs.Answers.{asked};
-ghost use Rattle.ra_log.specs.Versions.{versions_told};
-ghost use Rattle.ra_browse.specs.Histories.{newer, down_to, AreVersions};
-ghost use Rattle.ra_browse.specs.Answers.{file_denied, no_revision, version_denied, versions_denied};
-ghost use Rattle.ra_browse.specs.Tellings.{place_as, Decides, Finds, PortStays, Tells, AreRows, AreVersionsSought, TellsVersions};
+ghost use Rattle.ra_browse.specs.Histories.{down_to, AreVersions};
+ghost use Rattle.ra_browse.specs.Answers.{file_denied};
+ghost use Rattle.ra_browse.specs.Seeking.{SeeksVersions, SeeksVersionsBetween, SeeksVersionsOf};
+ghost use Rattle.ra_browse.specs.Seeking.{FindsVersion, HasVersion};
+ghost use Rattle.ra_browse.specs.Tellings.{place_as, PortStays, TellsVersions};
+ghost use Rattle.ra_browse.specs.Writing.{TellsBytes, Replies, ended};
+ghost use Rattle.ra_log.specs.Rows.{versions_in};
 
 use crate::denial::Denial;
 use crate::location::{newer, place_in};
@@ -51,8 +48,8 @@ pub fn get_file_revs<P: RepoPort, W: Write + Drop>(
     end: Option<u64>,
     out: W,
 ) -> Result<W, ServeFault>
-    ensures told { (merged : Bool) → IfOk result (Tells P.repository P.refusals W.contents (place_as place.now)
-        (FileRevs path.now start end merged) port.old port.new out) }
+    ensures told { (merged : Bool) → Replies P.RepoPort W.Write port.old port.new out (place_as place.now)
+        (FileRevs path.now start end merged) result }
     ensures stays { PortStays P.RepoPort port.old port.new }
 {
     match seek(alloc, port, &place.path, path, start, end) {
@@ -70,9 +67,7 @@ fn seek<P: RepoPort>(
     start: Option<u64>,
     end: Option<u64>,
 ) -> Result<VersionsSought, Stop>
-    ensures found { Finds P.RepoPort (λ x. versions_denied x (base.now ++ path.now) (asked x start) (asked x end))
-        (λ x s. AreVersionsSought x (base.now ++ path.now) (asked x start) (newer (asked x start) (asked x end)) s)
-        port.old port.new result }
+    ensures found { SeeksVersions P.RepoPort port.old port.new (base.now ++ path.now) start end result }
     ensures stays { PortStays P.RepoPort port.old port.new }
 {
     match ends(port, start, end) {
@@ -90,8 +85,7 @@ fn seek_between<P: RepoPort>(
     first: RevNo,
     last: RevNo,
 ) -> Result<VersionsSought, Stop>
-    ensures found { Finds P.RepoPort (λ x. versions_denied x (base.now ++ path.now) first last)
-        (λ x s. AreVersionsSought x (base.now ++ path.now) first (newer first last) s) port.old port.new result }
+    ensures found { SeeksVersionsBetween P.RepoPort port.old port.new (base.now ++ path.now) first last result }
     ensures stays { PortStays P.RepoPort port.old port.new }
 {
     match file_at(alloc, port, base, path, first, last) {
@@ -107,9 +101,7 @@ fn with_rows<P: RepoPort>(
     from: Place,
     first: RevNo,
 ) -> Result<VersionsSought, Stop>
-    ensures found { Finds P.RepoPort (λ x. no_revision x from.revision)
-        (λ x s. (s.from ≡ from) × (s.first ≡ first) × AreRows x from.revision true s.rows)
-        port.old port.new result }
+    ensures found { SeeksVersionsOf P.RepoPort port.old port.new from first result }
     ensures stays { PortStays P.RepoPort port.old port.new }
 {
     match rows_at(alloc, port, from.revision, true) {
@@ -127,8 +119,7 @@ fn file_at<P: RepoPort>(
     first: RevNo,
     last: RevNo,
 ) -> Result<Place, Stop>
-    ensures found { Finds P.RepoPort (λ x. versions_denied x (base.now ++ path.now) first last)
-        (λ x a. a ≡ place (newer first last) (base.now ++ path.now)) port.old port.new result }
+    ensures found { FindsVersion P.RepoPort port.old port.new (base.now ++ path.now) first last result }
     ensures stays { PortStays P.RepoPort port.old port.new }
 {
     let highest = newer(first, last);
@@ -147,8 +138,7 @@ fn file_in(
     first: RevNo,
     last: RevNo,
 ) -> Result<Place, Stop>
-    ensures { Decides (version_denied first last (base.now ++ path.now) (finite.get tree.now (base.now ++ path.now)))
-        (λ a. a ≡ place (newer first last) (base.now ++ path.now)) result }
+    ensures { HasVersion tree.now (base.now ++ path.now) first last result }
 {
     if last.get() < first.get() {
         return Err(Stop::Denied(Denial::Unsupported));
@@ -240,8 +230,7 @@ fn tell_versions<W: Write + Drop>(
     places: &[Place],
     out: W,
 ) -> Result<W, ServeFault>
-    ensures { IfOk result (λ w. Appends (W.contents out) (W.contents w)
-        ((versions_told rows.now.props.items rows.now.trees.items None places.now ++ spell end_item) ++ spell done)) }
+    ensures { TellsBytes W.Write out (ended (versions_in rows.now places.now)) result }
 {
     let Ok(kept) = BufWriter::with_capacity(alloc, ROOM, out) else {
         return Err(ServeFault::OutOfMemory);
@@ -254,8 +243,7 @@ fn tell_versions<W: Write + Drop>(
 
 // Tells the same piece by piece.
 fn tell_pieces<W: Write + Drop>(rows: &LogRows, places: &[Place], out: W) -> Result<W, ServeFault>
-    ensures { IfOk result (λ w. Appends (W.contents out) (W.contents w)
-        ((versions_told rows.now.props.items rows.now.trees.items None places.now ++ spell end_item) ++ spell done)) }
+    ensures { TellsBytes W.Write out (ended (versions_in rows.now places.now)) result }
 {
     let mut out = out;
     write_versions(&mut out, rows, places)?;
