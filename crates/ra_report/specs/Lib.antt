@@ -1,9 +1,12 @@
 pub mod Edits
 pub mod Finishing
+pub mod Given
 pub mod Orders
+pub mod Planning
 pub mod Plans
 pub mod Reports
 pub mod Shown
 pub mod Splits
 pub mod Switches
+pub mod Taking
 pub mod Trimmed

@@ -61,10 +61,14 @@ folder_denied shown.Emptied o = None
 folder_denied (shown.Within d) o = dir_denied o
 folder_denied shown.LeftOut o = None
 
+-- a target may begin where nothing stands at its source
+abbrev pub target_denied : Path → Shown → PathMap → Path → Option Denial
+target_denied t s m source = if is_none (finite.get m source) then None else placing_denied bare t m source s
+
 -- where a target is, or nothing, it may begin
 abbrev pub begun_denied : Path → Shown → PathMap → Path → Option Denial
 begun_denied [] s m source = folder_denied s (finite.get m source)
-begun_denied (n ∷ t) s m source = if is_none (finite.get m source) then None else placing_denied bare (n ∷ t) m source s
+begun_denied (n ∷ t) s m source = target_denied (n ∷ t) s m source
 
 abbrev pub begin_denied : Repository → Url → Path → Report → Option Denial
 begin_denied x at t (SetPath r) =
@@ -79,10 +83,13 @@ folder_begun shown.Emptied m source = bare
 folder_begun (shown.Within d) m source = brought_within d m source
 folder_begun shown.LeftOut m source = bare
 
--- a target stands alone in a directory, with nothing where nothing stands there
+-- a target stands alone in a directory, with nothing where nothing stands at its source
+abbrev pub target_begun : Path → Shown → PathMap → Path → Known
+target_begun t s m source = if is_none (finite.get m source) then bare else placed bare t (brought s m source)
+
 abbrev pub begun : Path → Shown → PathMap → Path → Known
 begun [] s m source = folder_begun s m source
-begun (n ∷ t) s m source = if is_none (finite.get m source) then bare else placed bare (n ∷ t) (brought s m source)
+begun (n ∷ t) s m source = target_begun (n ∷ t) s m source
 
 abbrev pub begin_known : Repository → Url → Path → Report → Known
 begin_known x at t (SetPath r) = begun t (shown_of r) (tree_of x r.revision) (at.1 ++ t)

@@ -1,12 +1,9 @@
 //! Commands of a target as those of its folder.
 
-ghost use Rattle.std.specs.Prelude.{◌≡◌, ◌++◌, ◌∷◌, [], map};
+ghost use Rattle.std.specs.Prelude.{◌≡◌, ◌++◌, map};
 ghost use Rattle.browse_wire.specs.Reports.{report_as, reported_as, LinkPath};
-ghost use Rattle.dump_load.specs.Faults.{fault_if};
-ghost use Rattle.node_base.specs.Limits.{fits};
 ghost use Rattle.ra_browse.specs.Tellings.{Decides};
-ghost use Rattle.ra_browse.specs.declared.denial.Denial.TheVariants.{NoPath};
-ghost use Rattle.std.specs.Prelude.{not};
+ghost use Rattle.ra_report.specs.Given.{path_denied, AddsAimed};
 ghost use Rattle.ra_report.specs.Reports.{aim_denied, aimed, aims_denied, behind};
 
 use crate::take::path_in;
@@ -41,8 +38,7 @@ fn push_aimed(
     command: &ReportCommand,
     all: &mut Vec<ReportCommand>,
 ) -> Result<(), Stop>
-    ensures { Decides (aim_denied target.now (report_as command.now)) (λ _. map report_as all.new.items
-        ≡ map report_as all.old.items ++ aimed target.now (report_as command.now) ∷ []) result }
+    ensures { AddsAimed all.old.items all.new.items target.now command.now result }
 {
     let aimed = match aim(alloc, target, command) {
         Ok(aimed) => aimed,
@@ -81,7 +77,7 @@ fn link(
     path: &Reported,
     url: &[u8],
 ) -> Result<ReportCommand, Stop>
-    ensures { Decides (fault_if (not (fits (target.now ++ path.now.path))) NoPath)
+    ensures { Decides (path_denied (target.now ++ path.now.path))
         (λ c. report_as c ≡ LinkPath (behind target.now (reported_as path.now)) url.now) result }
 {
     let path = match behind(alloc, target, path) {
@@ -96,7 +92,7 @@ fn link(
 
 // A path behind a target.
 fn behind(alloc: Global, target: &NodePath, path: &Reported) -> Result<Reported, Stop>
-    ensures { Decides (fault_if (not (fits (target.now ++ path.now.path))) NoPath)
+    ensures { Decides (path_denied (target.now ++ path.now.path))
         (λ r. reported_as r ≡ behind target.now (reported_as path.now)) result }
 {
     match path_in(alloc, target, &path.path) {

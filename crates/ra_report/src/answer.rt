@@ -1,12 +1,10 @@
 //! A report's answer.
 
-ghost use Rattle.std.specs.Prelude.{◌≡◌, map, true, false, IfOk};
+ghost use Rattle.std.specs.Prelude.{◌≡◌, true, false, IfOk};
 ghost use Rattle.uuid.specs.Text.{hyphenated_text, lower};
-ghost use Rattle.browse_wire.specs.Asks.{ask_as};
-ghost use Rattle.browse_wire.specs.Reports.{report_as};
-ghost use Rattle.ra_browse.specs.Tellings.{place_as, PortStays, TellsStop};
+ghost use Rattle.ra_browse.specs.Tellings.{PortStays, TellsStop};
 ghost use Rattle.ra_report.specs.Edits.{edit_told};
-ghost use Rattle.ra_report.specs.Finishing.{Finishes};
+ghost use Rattle.ra_report.specs.Planning.{EndsReport};
 ghost use Rattle.ra_report.specs.Plans.{TellsPlan};
 
 use crate::plan::{Plan, plan_of};
@@ -33,8 +31,7 @@ pub fn finish<P: RepoPort, W: Write + Drop>(
     report: &[ReportCommand],
     out: W,
 ) -> Result<(W, bool), ServeFault>
-    ensures told { IfOk result (λ r. Finishes P.repository P.refusals W.contents (place_as place.now)
-        (ask_as command.now) (map report_as report.now) port.old port.new out r.0 r.1) }
+    ensures told { EndsReport P.RepoPort W.Write port.old port.new out place.now command.now report.now result }
     ensures stays { PortStays P.RepoPort port.old port.new }
 {
     match plan_of(alloc, port, place, command, report) {

@@ -1,17 +1,19 @@
 //! What stands at a place of a revision.
 
-ghost use Rattle.std.specs.Prelude.{◌≡◌, ◌++◌, [], true, false, IfOk};
+ghost use Rattle.std.specs.Prelude.{◌≡◌, [], true, false};
 ghost use Rattle.std.specs.FinMap as finite;
 ghost use Rattle.dump_load.specs.Faults.{fault_if};
-ghost use Rattle.node_base.specs.Path.{Path, same_path};
-ghost use Rattle.node_base.specs.Tree.{alone, grafted, new_dir};
+ghost use Rattle.node_base.specs.Path.{same_path};
 ghost use Rattle.path_tree.specs.Copies.{copy_too_long};
 ghost use Rattle.tree_reports.specs.Depths.{within};
+ghost use Rattle.tree_reports.specs.Folders.{in_folder};
+ghost use Rattle.tree_reports.specs.Trees.{Makes};
 ghost use Rattle.ra_browse.specs.Answers.{dir_denied};
-ghost use Rattle.ra_browse.specs.Tellings.{Decides, Finds, PortStays};
+ghost use Rattle.ra_browse.specs.Tellings.{PortStays};
 ghost use Rattle.ra_browse.specs.declared.denial.Denial.TheVariants.{Unsupported};
-ghost use Rattle.ra_report.specs.Orders.{is_short, place_denied, wanted_denied, wanted_in};
-ghost use Rattle.ra_report.specs.Plans.{IsWanted};
+ghost use Rattle.ra_report.specs.Given.{alone_at, GivesTree, BeginsWanted};
+ghost use Rattle.ra_report.specs.Orders.{is_short, place_denied};
+ghost use Rattle.ra_report.specs.Planning.{LooksUp};
 
 use crate::order::is_short;
 use crate::plan::Wanted;
@@ -30,8 +32,7 @@ pub fn look_up<P: RepoPort>(
     place: &NodePath,
     target: &NodePath,
 ) -> Result<Wanted, Stop>
-    ensures found { Finds P.RepoPort (λ x. wanted_denied x revision place.now target.now)
-        (λ x w. IsWanted x revision (wanted_in x revision place.now target.now) w) port.old port.new result }
+    ensures found { LooksUp P.RepoPort port.old port.new revision place.now target.now result }
     ensures stays { PortStays P.RepoPort port.old port.new }
 {
     match tree_asked(port, revision) {
@@ -48,9 +49,7 @@ fn wanted_in(
     place: &NodePath,
     target: &NodePath,
 ) -> Result<Wanted, Stop>
-    ensures { Decides (place_denied whole place.now target.now) (λ w. (w.number ≡ number) × (w.whole ≡ whole)
-        × ((q : Path) → finite.get w.tree q
-        ≡ grafted (alone new_dir) target.now (λ r. finite.get whole (place.now ++ r)) q)) result }
+    ensures { BeginsWanted whole place.now target.now number result }
 {
     match part_at(alloc, &whole, place, target) {
         Ok(tree) => Ok(Wanted {
@@ -64,8 +63,7 @@ fn wanted_in(
 
 // The same as a tree of its own.
 fn part_at(alloc: Global, tree: &Tree, place: &NodePath, target: &NodePath) -> Result<Tree, Stop>
-    ensures { Decides (place_denied tree.now place.now target.now) (λ t. (q : Path) → finite.get t q
-        ≡ grafted (alone new_dir) target.now (λ r. finite.get tree.now (place.now ++ r)) q) result }
+    ensures { GivesTree (place_denied tree.now place.now target.now) (alone_at tree.now place.now target.now) result }
 {
     if target.is_root() {
         return tree_at(alloc, tree, place);
@@ -80,8 +78,8 @@ fn part_at(alloc: Global, tree: &Tree, place: &NodePath, target: &NodePath) -> R
 fn named(alloc: Global, tree: &Tree, place: &NodePath, target: &NodePath) -> Result<Tree, Stop>
     requires below_root { same_path target.now [] ≡ false }
     requires short { is_short target.now ≡ true }
-    ensures { Decides (fault_if (copy_too_long tree.now place.now target.now) Unsupported) (λ t. (q : Path) → finite.get t q
-        ≡ grafted (alone new_dir) target.now (λ r. finite.get tree.now (place.now ++ r)) q) result }
+    ensures { GivesTree (fault_if (copy_too_long tree.now place.now target.now) Unsupported)
+        (alone_at tree.now place.now target.now) result }
 {
     if tree.copy_is_too_long(place.names(), target.names()) {
         return Err(Stop::Denied(Denial::Unsupported));
@@ -102,8 +100,7 @@ fn alone_in(
     requires below_root { same_path target.now [] ≡ false }
     requires short { is_short target.now ≡ true }
     requires small { copy_too_long tree.now place.now target.now ≡ false }
-    ensures { IfOk result (λ t. (q : Path) → finite.get t q
-        ≡ grafted (alone new_dir) target.now (λ r. finite.get tree.now (place.now ++ r)) q) }
+    ensures { Makes (alone_at tree.now place.now target.now) result }
 {
     let mut top = Tree::empty(alloc)?;
     put_copy(alloc, &mut top, target, tree, place)?;
@@ -112,8 +109,7 @@ fn alone_in(
 
 // A folder of a tree as a tree of its own.
 fn tree_at(alloc: Global, tree: &Tree, folder: &NodePath) -> Result<Tree, Stop>
-    ensures { Decides (dir_denied (finite.get tree.now folder.now))
-        (λ t. (q : Path) → finite.get t q ≡ finite.get tree.now (folder.now ++ q)) result }
+    ensures { GivesTree (dir_denied (finite.get tree.now folder.now)) (in_folder tree.now folder.now) result }
 {
     if let Some(why) = dir_denied(tree, folder) {
         return Err(Stop::Denied(why));
@@ -131,8 +127,8 @@ pub fn tree_within(
     folder: &NodePath,
     depth: Depth,
 ) -> Result<Tree, Stop>
-    ensures { Decides (dir_denied (finite.get tree.now folder.now))
-        (λ t. (q : Path) → finite.get t q ≡ within depth (λ r. finite.get tree.now (folder.now ++ r)) q) result }
+    ensures { GivesTree (dir_denied (finite.get tree.now folder.now))
+        (within depth (in_folder tree.now folder.now)) result }
 {
     if let Some(why) = dir_denied(tree, folder) {
         return Err(Stop::Denied(why));

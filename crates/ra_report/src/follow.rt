@@ -2,10 +2,10 @@
 
 ghost use Rattle.std.specs.Prelude.{◌≡◌};
 ghost use Rattle.std.specs.FinMap as finite;
-ghost use Rattle.node_base.specs.Path.{Path};
 ghost use Rattle.ra_browse.specs.Tellings.{Decides};
+ghost use Rattle.ra_report.specs.Given.{Follows, FollowsOne};
 ghost use Rattle.ra_report.specs.Plans.{AreKept};
-ghost use Rattle.ra_report.specs.Switches.{kept, switch_denied, switches_denied, with_switch, with_switches};
+ghost use Rattle.ra_report.specs.Switches.{kept, switches_denied};
 
 use crate::plan::Wanted;
 use crate::switched::Switched;
@@ -47,8 +47,7 @@ pub fn kept<'a>(keeps: bool, switches: &'a [Switched]) -> &'a [Switched]
 
 // Puts what stands at the places.
 fn put_all(alloc: Global, tree: &mut Tree, whole: &Tree, switches: &[Switched]) -> Result<(), Stop>
-    ensures { Decides (switches_denied (finite.get tree.old) whole.now switches.now)
-        (λ _. (q : Path) → finite.get tree.new q ≡ with_switches (finite.get tree.old) whole.now switches.now q) result }
+    ensures { Follows tree.old tree.new whole.now switches.now result }
 {
     for switched in switches {
         match put(alloc, tree, whole, switched) {
@@ -61,8 +60,7 @@ fn put_all(alloc: Global, tree: &mut Tree, whole: &Tree, switches: &[Switched]) 
 
 // Puts what stands at the place of one.
 fn put(alloc: Global, tree: &mut Tree, whole: &Tree, switched: &Switched) -> Result<(), Stop>
-    ensures { Decides (switch_denied (finite.get tree.old) whole.now switched.now)
-        (λ _. (q : Path) → finite.get tree.new q ≡ with_switch (finite.get tree.old) whole.now switched.now q) result }
+    ensures { FollowsOne tree.old tree.new whole.now switched.now result }
 {
     if switched.path.is_root() {
         return Ok(());

@@ -3,11 +3,10 @@
 ghost use Rattle.std.specs.Prelude.{◌≡◌, ◌++◌, true, false, None};
 ghost use Rattle.browse_wire.specs.Asks.{ask_as};
 ghost use Rattle.browse_wire.specs.Depths.{word_of};
-ghost use Rattle.browse_wire.specs.Urls.{url_read};
-ghost use Rattle.ra_browse.specs.Answers.{url_denied, moved_to};
 ghost use Rattle.ra_browse.specs.Tellings.{place_as, url_stop, Decides};
+ghost use Rattle.ra_report.specs.Given.{link_denied, link_place, GivesOrder};
 ghost use Rattle.ra_report.specs.Orders.{awaits_report, depth_wanted, here_denied, is_short, part_denied, there_denied};
-ghost use Rattle.ra_report.specs.Orders.{order_denied, IsOrder, Orders};
+ghost use Rattle.ra_report.specs.Orders.{order_denied, IsOrder};
 
 use crate::shown::depth_of;
 use crate::take::path_in;
@@ -97,8 +96,8 @@ fn here(
     depth: Option<Below>,
     revision: Option<u64>,
 ) -> Result<Order, Stop>
-    ensures { Decides (here_denied (place_as place.now) target.now)
-        (Orders revision (place.now.path ++ target.now) target.now (depth_wanted (word_of depth)) true) result }
+    ensures { GivesOrder (here_denied (place_as place.now) target.now) revision (place.now.path ++ target.now)
+        target.now depth true result }
 {
     if let Some(why) = part_denied(target) {
         return Err(Stop::Denied(why));
@@ -118,7 +117,7 @@ fn order_at(
     depth: Option<Below>,
     keeps: bool,
 ) -> Result<Order, Stop>
-    ensures { Decides None (Orders revision path target.now (depth_wanted (word_of depth)) keeps) result }
+    ensures { GivesOrder None revision path target.now depth keeps result }
 {
     match target.copy(alloc) {
         Ok(target) => Ok(Order {
@@ -141,8 +140,8 @@ fn there(
     url: &[u8],
     revision: Option<u64>,
 ) -> Result<Order, Stop>
-    ensures { Decides (there_denied (place_as place.now) target.now url.now)
-        (Orders revision (moved_to (place_as place.now) (url_read url.now)).1 target.now (depth_wanted (word_of depth)) false) result }
+    ensures { GivesOrder (there_denied (place_as place.now) target.now url.now) revision
+        (link_place (place_as place.now) url.now) target.now depth false result }
 {
     if let Some(why) = part_denied(target) {
         return Err(Stop::Denied(why));
@@ -186,8 +185,8 @@ fn depth_wanted(depth: Option<Below>) -> Option<Depth>
 
 /// The path of another URL of the session's root.
 pub fn path_at(alloc: Global, place: &SessionUrl, url: &[u8]) -> Result<NodePath, Stop>
-    ensures { Decides (url_denied (place_as place.now) (url_read url.now))
-        (λ p. p ≡ (moved_to (place_as place.now) (url_read url.now)).1) result }
+    ensures { Decides (link_denied (place_as place.now) url.now)
+        (λ p. p ≡ link_place (place_as place.now) url.now) result }
 {
     match place.path_of(alloc, url) {
         Ok(path) => Ok(path),

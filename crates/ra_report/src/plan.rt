@@ -1,19 +1,11 @@
 //! What an edit is made of.
 
-ghost use Rattle.std.specs.Prelude.{◌≡◌, [], map, Some};
-ghost use Rattle.std.specs.Option.{option_or};
+ghost use Rattle.std.specs.Prelude.{◌≡◌};
 ghost use Rattle.browse_wire.specs.Asks.{ask_as};
-ghost use Rattle.browse_wire.specs.Reports.{report_as};
-ghost use Rattle.node_base.specs.Path.{same_path};
 ghost use Rattle.ra_browse.specs.Answers.{no_revision};
-ghost use Rattle.ra_browse.specs.Tellings.{place_as, Finds, PortStays};
-ghost use Rattle.ra_report.specs.Edits.{edit_denied, report_denied};
-ghost use Rattle.ra_report.specs.Plans.{IsFullPlan, IsPlan, IsPlanOf, IsPlanned};
-ghost use Rattle.ra_report.specs.Orders.{depth_of, keeps, revision_of, place_of, target_of};
-ghost use Rattle.ra_report.specs.Reports.{having, reports_denied, reported, base_of};
-ghost use Rattle.ra_report.specs.Switches.{kept, switches_denied};
-ghost use Rattle.std.specs.FinMap as finite;
-ghost use Rattle.tree_reports.specs.Reports.{content_at};
+ghost use Rattle.ra_browse.specs.Tellings.{Finds, PortStays};
+ghost use Rattle.ra_report.specs.Planning.{Plans, PlansBy, PlansFully, PlansFrom, PlansWith};
+ghost use Rattle.ra_report.specs.Plans.{IsPlanned};
 
 use crate::folder::look_up;
 use crate::follow::{follow, kept};
@@ -72,11 +64,7 @@ pub fn plan_of<P: RepoPort>(
     command: &BrowseCommand,
     report: &[ReportCommand],
 ) -> Result<Plan, Stop>
-    ensures found { Finds P.RepoPort
-        (λ x. report_denied x (place_as place.now) (ask_as command.now) (map report_as report.now))
-        (λ x p. IsPlan x (place_as place.now) (revision_of (ask_as command.now))
-        (place_of (place_as place.now) (ask_as command.now)) (target_of (ask_as command.now)) (depth_of (ask_as command.now))
-        (keeps (ask_as command.now)) (map report_as report.now) p) port.old port.new result }
+    ensures found { Plans P.RepoPort port.old port.new place.now (ask_as command.now) report.now result }
     ensures stays { PortStays P.RepoPort port.old port.new }
 {
     match order_of(alloc, place, command) {
@@ -93,11 +81,7 @@ fn plan_by<P: RepoPort>(
     order: &Order,
     report: &[ReportCommand],
 ) -> Result<Plan, Stop>
-    ensures found { Finds P.RepoPort
-        (λ x. edit_denied x (place_as place.now) order.now.revision order.now.path order.now.target order.now.keeps
-        (map report_as report.now))
-        (λ x p. IsPlan x (place_as place.now) order.now.revision order.now.path order.now.target order.now.depth order.now.keeps
-        (map report_as report.now) p) port.old port.new result }
+    ensures found { PlansBy P.RepoPort port.old port.new place.now order.now report.now result }
     ensures stays { PortStays P.RepoPort port.old port.new }
 {
     match plan_for(alloc, port, place, order, report) {
@@ -114,11 +98,7 @@ fn plan_for<P: RepoPort>(
     order: &Order,
     report: &[ReportCommand],
 ) -> Result<Plan, Stop>
-    ensures found { Finds P.RepoPort
-        (λ x. edit_denied x (place_as place.now) order.now.revision order.now.path order.now.target order.now.keeps
-        (map report_as report.now))
-        (λ x p. IsFullPlan x (place_as place.now) order.now.revision order.now.path order.now.target order.now.keeps
-        (map report_as report.now) p) port.old port.new result }
+    ensures found { PlansFully P.RepoPort port.old port.new place.now order.now report.now result }
     ensures stays { PortStays P.RepoPort port.old port.new }
 {
     match look_up(alloc, port, order.revision, &order.path, &order.target) {
@@ -136,13 +116,7 @@ fn plan_from<P: RepoPort>(
     wanted: Wanted,
     report: &[ReportCommand],
 ) -> Result<Plan, Stop>
-    ensures found { Finds P.RepoPort
-        (λ x. option_or (reports_denied x (place_as place.now) order.now.target (map report_as report.now))
-        (option_or (switches_denied (finite.get wanted.tree) wanted.whole (kept order.now.keeps
-        (reported x (place_as place.now) order.now.target (map report_as report.now)).switches)) (no_revision x wanted.number)))
-        (λ x p. IsPlanOf x (reported x (place_as place.now) order.now.target (map report_as report.now))
-        (base_of (map report_as report.now)) order.now.keeps (same_path order.now.target []) wanted p)
-        port.old port.new result }
+    ensures found { PlansFrom P.RepoPort port.old port.new place.now order.now wanted report.now result }
     ensures stays { PortStays P.RepoPort port.old port.new }
 {
     match working_copy(alloc, port, place, &order.target, report) {
@@ -159,11 +133,7 @@ fn plan_with<P: RepoPort>(
     wanted: Wanted,
     copy: WorkingCopy,
 ) -> Result<Plan, Stop>
-    ensures found { Finds P.RepoPort
-        (λ x. option_or (switches_denied (finite.get wanted.tree) wanted.whole (kept order.now.keeps copy.switches.items))
-        (no_revision x wanted.number))
-        (λ x p. IsPlanOf x (having (content_at copy.report) copy.switches.items) (Some copy.base) order.now.keeps
-        (same_path order.now.target []) wanted p) port.old port.new result }
+    ensures found { PlansWith P.RepoPort port.old port.new order.now wanted copy result }
     ensures stays { PortStays P.RepoPort port.old port.new }
 {
     match follow(alloc, wanted, kept(order.keeps, copy.switches.as_slice())) {

@@ -1,22 +1,16 @@
 //! What a working copy reports.
 
-ghost use Rattle.std.specs.Prelude.{◌≡◌, [], map, Some, None, is_none, if◌then◌else◌};
-ghost use Rattle.std.specs.Option.{option_or};
-ghost use Rattle.dump_load.specs.Faults.{fault_if};
-ghost use Rattle.node_base.specs.Limits.{fits};
-ghost use Rattle.std.specs.Prelude.{◌++◌, not};
-ghost use Rattle.node_base.specs.Path.{Path};
+ghost use Rattle.std.specs.Prelude.{◌++◌, [], None};
 ghost use Rattle.tree_reports.specs.Reports.{brought_within, content_at, placed};
 ghost use Rattle.browse_wire.specs.Reports.{report_as, reported_as, SetPath};
-ghost use Rattle.ra_serve.specs.Ports.{tree_of};
-ghost use Rattle.ra_browse.specs.Answers.{dir_denied, no_revision};
-ghost use Rattle.ra_browse.specs.Tellings.{place_as, Decides, Finds, PortStays};
-ghost use Rattle.ra_browse.specs.declared.denial.Denial.TheVariants.{NoPath};
+ghost use Rattle.ra_browse.specs.Answers.{dir_denied};
+ghost use Rattle.ra_browse.specs.Tellings.{PortStays};
 ghost use Rattle.std.specs.FinMap as finite;
-ghost use Rattle.ra_report.specs.Plans.{IsCopy};
-ghost use Rattle.ra_report.specs.Reports.{begin_denied, begin_known, begun, begun_denied, base_in, base_of, folder_denied, placing_denied};
+ghost use Rattle.ra_report.specs.Given.{GivesReport, BeginsCopy};
+ghost use Rattle.ra_report.specs.Reports.{begun, begun_denied, folder_denied, placing_denied, target_begun, target_denied};
 ghost use Rattle.ra_report.specs.Shown.{bare, brought};
-ghost use Rattle.ra_report.specs.Reports.{having, later, later_denied, reports_denied, reported, whole, whole_denied};
+ghost use Rattle.ra_report.specs.Taking.{known_in, FindsCopy, FindsWhole, Begins, BeginsAt, BeginsHere};
+ghost use Rattle.ra_report.specs.Taking.{GoesOn, HeedsAll};
 
 use crate::aim::aimed_all;
 use crate::folder::tree_within;
@@ -41,10 +35,7 @@ pub fn working_copy<P: RepoPort>(
     target: &NodePath,
     report: &[ReportCommand],
 ) -> Result<WorkingCopy, Stop>
-    ensures found { Finds P.RepoPort
-        (λ x. reports_denied x (place_as place.now) target.now (map report_as report.now))
-        (λ x c. IsCopy (reported x (place_as place.now) target.now (map report_as report.now))
-        (base_of (map report_as report.now)) c) port.old port.new result }
+    ensures found { FindsCopy P.RepoPort port.old port.new place.now target.now report.now result }
     ensures stays { PortStays P.RepoPort port.old port.new }
 {
     match aimed_all(alloc, target, report) {
@@ -61,10 +52,7 @@ fn whole<P: RepoPort>(
     target: &NodePath,
     report: &[ReportCommand],
 ) -> Result<WorkingCopy, Stop>
-    ensures found { Finds P.RepoPort
-        (λ x. whole_denied x (place_as place.now) target.now (map report_as report.now))
-        (λ x c. IsCopy (whole x (place_as place.now) target.now (map report_as report.now))
-        (base_of (map report_as report.now)) c) port.old port.new result }
+    ensures found { FindsWhole P.RepoPort port.old port.new place.now target.now report.now result }
     ensures stays { PortStays P.RepoPort port.old port.new }
 {
     let Some((first, rest)) = report.split_first() else {
@@ -84,9 +72,7 @@ fn begun<P: RepoPort>(
     target: &NodePath,
     command: &ReportCommand,
 ) -> Result<WorkingCopy, Stop>
-    ensures found { Finds P.RepoPort (λ x. begin_denied x (place_as place.now) target.now (report_as command.now))
-        (λ x c. IsCopy (having (begin_known x (place_as place.now) target.now (report_as command.now)) []) (base_in (report_as command.now)) c)
-        port.old port.new result }
+    ensures found { Begins P.RepoPort port.old port.new place.now target.now (report_as command.now) result }
     ensures stays { PortStays P.RepoPort port.old port.new }
 {
     match command {
@@ -103,10 +89,7 @@ fn begun_by<P: RepoPort>(
     target: &NodePath,
     path: &Reported,
 ) -> Result<WorkingCopy, Stop>
-    ensures found { Finds P.RepoPort
-        (λ x. begin_denied x (place_as place.now) target.now (SetPath (reported_as path.now)))
-        (λ x c. IsCopy (having (begin_known x (place_as place.now) target.now (SetPath (reported_as path.now))) [])
-        (base_in (SetPath (reported_as path.now))) c) port.old port.new result }
+    ensures found { Begins P.RepoPort port.old port.new place.now target.now (SetPath (reported_as path.now)) result }
     ensures stays { PortStays P.RepoPort port.old port.new }
 {
     if !path.path.compare(target).is_eq() {
@@ -125,10 +108,7 @@ fn begun_here<P: RepoPort>(
     revision: u64,
     shown: Shown,
 ) -> Result<WorkingCopy, Stop>
-    ensures found { Finds P.RepoPort (λ x. option_or (fault_if (not (fits (here.now ++ target.now))) NoPath)
-        (option_or (no_revision x revision) (begun_denied target.now shown (tree_of x revision) (here.now ++ target.now))))
-        (λ x c. IsCopy (having (begun target.now shown (tree_of x revision) (here.now ++ target.now)) []) (Some revision) c)
-        port.old port.new result }
+    ensures found { BeginsHere P.RepoPort port.old port.new (here.now ++ target.now) target.now revision shown result }
     ensures stays { PortStays P.RepoPort port.old port.new }
 {
     match path_in(alloc, here, target) {
@@ -146,10 +126,7 @@ fn begun_at<P: RepoPort>(
     revision: u64,
     shown: Shown,
 ) -> Result<WorkingCopy, Stop>
-    ensures found { Finds P.RepoPort (λ x. option_or (no_revision x revision)
-        (begun_denied target.now shown (tree_of x revision) source.now))
-        (λ x c. IsCopy (having (begun target.now shown (tree_of x revision) source.now) []) (Some revision) c)
-        port.old port.new result }
+    ensures found { BeginsAt P.RepoPort port.old port.new source.now target.now revision shown result }
     ensures stays { PortStays P.RepoPort port.old port.new }
 {
     match tree_asked(port, Some(revision)) {
@@ -167,9 +144,7 @@ fn begun_with(
     target: &NodePath,
     shown: Shown,
 ) -> Result<WorkingCopy, Stop>
-    ensures { Decides (begun_denied target.now shown tree.now source.now)
-        (λ c. (c.base ≡ base) × (c.switches.items ≡ [])
-        × ((q : Path) → content_at c.report q ≡ begun target.now shown tree.now source.now q)) result }
+    ensures { BeginsCopy tree.now source.now target.now shown base result }
 {
     match begun_in(alloc, tree, source, target, shown) {
         Ok(report) => Ok(WorkingCopy {
@@ -189,8 +164,8 @@ fn begun_in(
     target: &NodePath,
     shown: Shown,
 ) -> Result<Report, Stop>
-    ensures { Decides (begun_denied target.now shown tree.now source.now)
-        (λ r. (q : Path) → content_at r q ≡ begun target.now shown tree.now source.now q) result }
+    ensures { GivesReport (begun_denied target.now shown tree.now source.now)
+        (begun target.now shown tree.now source.now) result }
 {
     if target.is_root() {
         return folder_begun(alloc, tree, source, shown);
@@ -200,8 +175,8 @@ fn begun_in(
 
 // So much of a folder of a tree, or one without what is in it.
 fn folder_begun(alloc: Global, tree: &Tree, folder: &NodePath, shown: Shown) -> Result<Report, Stop>
-    ensures { Decides (folder_denied shown (finite.get tree.now folder.now))
-        (λ r. (q : Path) → content_at r q ≡ begun [] shown tree.now folder.now q) result }
+    ensures { GivesReport (folder_denied shown (finite.get tree.now folder.now))
+        (begun [] shown tree.now folder.now) result }
 {
     match shown {
         Shown::Within(depth) => folder_within(alloc, tree, folder, depth),
@@ -217,8 +192,8 @@ fn folder_within(
     folder: &NodePath,
     depth: Depth,
 ) -> Result<Report, Stop>
-    ensures { Decides (dir_denied (finite.get tree.now folder.now))
-        (λ r. (q : Path) → content_at r q ≡ brought_within depth tree.now folder.now q) result }
+    ensures { GivesReport (dir_denied (finite.get tree.now folder.now))
+        (brought_within depth tree.now folder.now) result }
 {
     match tree_within(alloc, tree, folder, depth) {
         Ok(tree) => Ok(Report::begin(tree)),
@@ -228,7 +203,7 @@ fn folder_within(
 
 // A folder without what is in it.
 fn bare_folder(alloc: Global) -> Result<Report, Stop>
-    ensures { Decides None (λ r. (q : Path) → content_at r q ≡ bare q) result }
+    ensures { GivesReport None bare result }
 {
     match Report::begin_empty(alloc) {
         Ok(report) => Ok(report),
@@ -244,10 +219,8 @@ fn target_begun(
     target: &NodePath,
     shown: Shown,
 ) -> Result<Report, Stop>
-    ensures { Decides (if is_none (finite.get tree.now source.now) then None
-        else placing_denied bare target.now tree.now source.now shown)
-        (λ r. (q : Path) → content_at r q ≡ (if is_none (finite.get tree.now source.now) then bare
-        else placed bare target.now (brought shown tree.now source.now)) q) result }
+    ensures { GivesReport (target_denied target.now shown tree.now source.now)
+        (target_begun target.now shown tree.now source.now) result }
 {
     let report = match Report::begin_empty(alloc) {
         Ok(report) => report,
@@ -268,9 +241,8 @@ fn with_target(
     target: &NodePath,
     shown: Shown,
 ) -> Result<Report, Stop>
-    ensures { Decides (placing_denied (content_at report) target.now tree.now source.now shown)
-        (λ r. (q : Path) → content_at r q
-        ≡ placed (content_at report) target.now (brought shown tree.now source.now) q) result }
+    ensures { GivesReport (placing_denied (content_at report) target.now tree.now source.now shown)
+        (placed (content_at report) target.now (brought shown tree.now source.now)) result }
 {
     let mut report = report;
     match bring_from(alloc, &mut report, target, tree, source, shown) {
@@ -288,10 +260,7 @@ fn go_on<P: RepoPort>(
     copy: WorkingCopy,
     rest: &[ReportCommand],
 ) -> Result<WorkingCopy, Stop>
-    ensures found { Finds P.RepoPort
-        (λ x. later_denied x (place_as place.now) target.now (having (content_at copy.report) copy.switches.items) (map report_as rest.now))
-        (λ x c. IsCopy (later x (place_as place.now) target.now (having (content_at copy.report) copy.switches.items)
-        (map report_as rest.now)) (Some copy.base) c) port.old port.new result }
+    ensures found { GoesOn P.RepoPort port.old port.new copy place.now target.now rest.now result }
     ensures stays { PortStays P.RepoPort port.old port.new }
 {
     let WorkingCopy {
@@ -321,11 +290,8 @@ fn take_all<P: RepoPort>(
     switches: &mut Vec<Switched>,
     rest: &[ReportCommand],
 ) -> Result<(), Stop>
-    ensures found { Finds P.RepoPort
-        (λ x. later_denied x (place_as place.now) target.now (having (content_at report.old) switches.old.items) (map report_as rest.now))
-        (λ x _. having (content_at report.new) switches.new.items
-        ≡ later x (place_as place.now) target.now (having (content_at report.old) switches.old.items) (map report_as rest.now))
-        port.old port.new result }
+    ensures found { HeedsAll P.RepoPort port.old port.new (known_in report.old switches.old.items)
+        (known_in report.new switches.new.items) place.now target.now rest.now result }
     ensures stays { PortStays P.RepoPort port.old port.new }
 {
     for command in rest {

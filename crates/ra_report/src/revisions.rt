@@ -5,6 +5,7 @@ ghost use Rattle.repo_core.specs.Repository.{Repository};
 ghost use Rattle.ra_browse.specs.Answers.{no_revision};
 ghost use Rattle.ra_browse.specs.Tellings.{Finds, PortStays};
 ghost use Rattle.ra_report.specs.Edits.{all_props};
+ghost use Rattle.ra_report.specs.Planning.{AddsProps};
 
 use node_base::{Props, RevNo};
 use ra_browse::{Stop, stopped};
@@ -13,9 +14,7 @@ use std::alloc::Global;
 
 // Puts the properties of a revision behind those of the revisions before it.
 fn push_props<P: RepoPort>(port: &mut P, number: RevNo, all: &mut Vec<Props>) -> Result<(), Stop>
-    ensures found { Finds P.RepoPort (λ x. no_revision x number)
-        (λ x _. all.old.items ≡ take number (all_props x) → all.new.items ≡ take (suc number) (all_props x))
-        port.old port.new result }
+    ensures found { AddsProps P.RepoPort port.old port.new all.old.items all.new.items number result }
     ensures stays { PortStays P.RepoPort port.old port.new }
 {
     let props = match port.props(number) {

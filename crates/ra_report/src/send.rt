@@ -2,10 +2,10 @@
 
 ghost use Rattle.std.specs.Prelude.{◌≡◌, IfOk};
 ghost use Rattle.std.specs.Io.KnownBytes.{Appends};
-ghost use Rattle.uuid.specs.Text.{hyphenated_text, lower};
 ghost use Rattle.ra_item.specs.Items.{spell};
 ghost use Rattle.ra_wire.specs.Replies.{authorised};
 ghost use Rattle.ra_report.specs.Edits.{edit_told, edit_alone};
+ghost use Rattle.ra_report.specs.Planning.{Sends};
 ghost use Rattle.ra_report.specs.Plans.{TellsPlan};
 
 use crate::plan::Plan;
@@ -19,8 +19,7 @@ use uuid::Uuid;
 
 /// Answers for the second time who the client is, and sends the edit.
 pub fn send<W: Write + Drop>(alloc: Global, plan: &Plan, out: W) -> Result<W, ServeFault>
-    ensures { IfOk result (λ w. TellsPlan plan.now (hyphenated_text lower plan.now.identity) edit_told
-        (W.contents out) (W.contents w)) }
+    ensures { Sends W.Write out plan.now edit_told result }
 {
     match authorise(out) {
         Ok(out) => send_edit(alloc, plan, out),
@@ -39,8 +38,7 @@ fn authorise<W: Write + Drop>(out: W) -> Result<W, ServeFault>
 
 // Sends the edit alone.
 fn send_edit<W: Write + Drop>(alloc: Global, plan: &Plan, out: W) -> Result<W, ServeFault>
-    ensures { IfOk result (λ w. TellsPlan plan.now (hyphenated_text lower plan.now.identity) edit_alone
-        (W.contents out) (W.contents w)) }
+    ensures { Sends W.Write out plan.now edit_alone result }
 {
     let mut buffer = Uuid::encode_buffer();
     let text = plan.identity.hyphenated().encode_lower(&mut buffer);

@@ -1,12 +1,9 @@
 //! Paths that stand as other URLs'.
 
-ghost use Rattle.std.specs.Prelude.{◌≡◌, ◌++◌, not};
+ghost use Rattle.std.specs.Prelude.{◌≡◌, ◌++◌};
 ghost use Rattle.std.specs.Option.{option_map_or};
-ghost use Rattle.dump_load.specs.Faults.{fault_if};
-ghost use Rattle.node_base.specs.Limits.{fits};
 ghost use Rattle.node_base.specs.Path.{rest_after};
-ghost use Rattle.ra_browse.specs.Tellings.{Decides};
-ghost use Rattle.ra_browse.specs.declared.denial.Denial.TheVariants.{NoPath};
+ghost use Rattle.ra_report.specs.Given.{GivesPath};
 ghost use Rattle.ra_report.specs.Switches.{lies};
 ghost use Rattle.ra_report.specs.Splits.{whole_split};
 
@@ -36,8 +33,7 @@ pub fn lying(
     switches: &[Switched],
     path: &NodePath,
 ) -> Result<NodePath, Stop>
-    ensures { Decides (fault_if (not (fits (lies path.now (here.now ++ path.now) switches.now))) NoPath)
-        (λ p. p ≡ lies path.now (here.now ++ path.now) switches.now) result }
+    ensures { GivesPath (lies path.now (here.now ++ path.now) switches.now) result }
 {
     let mut place = Split {
         front: here,

@@ -1,20 +1,17 @@
 //! One command of a report behind its first.
 
-ghost use Rattle.std.specs.Prelude.{◌≡◌, ◌++◌, [], ◌∷◌, not, None, OnOk};
-ghost use Rattle.std.specs.Option.{option_or};
+ghost use Rattle.std.specs.Prelude.{◌≡◌, ◌++◌, [], ◌∷◌, None};
 ghost use Rattle.dump_load.specs.Faults.{fault_if};
-ghost use Rattle.browse_wire.specs.Urls.{url_read};
-ghost use Rattle.ra_browse.specs.Answers.{moved_to, url_denied};
-ghost use Rattle.node_base.specs.Limits.{fits};
-ghost use Rattle.node_base.specs.Path.{Path, same_path};
-ghost use Rattle.tree_reports.specs.Reports.{Answers, content_at, placed};
+ghost use Rattle.node_base.specs.Path.{same_path};
+ghost use Rattle.tree_reports.specs.Reports.{Answers, content_at};
+ghost use Rattle.tree_reports.specs.Trees.{Reports};
 ghost use Rattle.browse_wire.specs.Reports.{report_as, reported_as, LinkPath, SetPath};
-ghost use Rattle.ra_browse.specs.Tellings.{place_as, Decides, Finds, PortStays};
-ghost use Rattle.ra_browse.specs.declared.denial.Denial.TheVariants.{BadReport, NoPath};
-ghost use Rattle.ra_report.specs.Reports.{links_denied, placing_denied, shown_fault, source_denied, with_source, error_stop};
-ghost use Rattle.ra_report.specs.Reports.{having, next, next_denied, switched};
-ghost use Rattle.ra_report.specs.Reports.{heeded, heeded_denied, is_beneath, is_void, voided, void_denied};
+ghost use Rattle.ra_browse.specs.Tellings.{place_as, Decides, PortStays};
+ghost use Rattle.ra_browse.specs.declared.denial.Denial.TheVariants.{BadReport};
+ghost use Rattle.ra_report.specs.Given.{GivesPath, Places, PassesOver, PassesLink};
+ghost use Rattle.ra_report.specs.Reports.{links_denied, placing_denied, shown_fault, error_stop, switched, is_beneath, is_void};
 ghost use Rattle.ra_report.specs.Shown.{brought};
+ghost use Rattle.ra_report.specs.Taking.{known_in, Heeds, Takes, TakesLink, Brings};
 
 use crate::order::path_at;
 use crate::shown::{Shown, shown_of};
@@ -43,11 +40,8 @@ pub fn heed<P: RepoPort>(
     switches: &mut Vec<Switched>,
     command: &ReportCommand,
 ) -> Result<(), Stop>
-    ensures found { Finds P.RepoPort
-        (λ x. heeded_denied x (place_as place.now) target.now (having (content_at report.old) switches.old.items) (report_as command.now))
-        (λ x _. having (content_at report.new) switches.new.items
-        ≡ heeded x (place_as place.now) target.now (having (content_at report.old) switches.old.items) (report_as command.now))
-        port.old port.new result }
+    ensures found { Heeds P.RepoPort port.old port.new (known_in report.old switches.old.items)
+        (known_in report.new switches.new.items) place.now target.now command.now result }
     ensures stays { PortStays P.RepoPort port.old port.new }
 {
     if is_void(report, target, command) {
@@ -63,8 +57,7 @@ fn pass_over(
     switches: &mut Vec<Switched>,
     command: &ReportCommand,
 ) -> Result<(), Stop>
-    ensures { Decides (void_denied (place_as place.now) switches.old.items (report_as command.now))
-        (λ _. switches.new.items ≡ voided (place_as place.now) switches.old.items (report_as command.now)) result }
+    ensures { PassesOver switches.old.items switches.new.items (place_as place.now) command.now result }
 {
     match command {
         ReportCommand::LinkPath(path, url) => {
@@ -82,9 +75,7 @@ fn pass_link(
     path: &NodePath,
     url: &[u8],
 ) -> Result<(), Stop>
-    ensures { Decides (option_or (links_denied switches.old.items) (url_denied (place_as place.now) (url_read url.now)))
-        (λ _. switches.new.items ≡ switches.old.items ++ switched path.now (moved_to (place_as place.now) (url_read url.now)).1 ∷ [])
-        result }
+    ensures { PassesLink switches.old.items switches.new.items (place_as place.now) path.now url.now result }
 {
     if let Some(why) = links_denied(switches.as_slice()) {
         return Err(Stop::Denied(why));
@@ -124,11 +115,8 @@ fn take<P: RepoPort>(
     switches: &mut Vec<Switched>,
     command: &ReportCommand,
 ) -> Result<(), Stop>
-    ensures found { Finds P.RepoPort
-        (λ x. next_denied x (place_as place.now) (having (content_at report.old) switches.old.items) (report_as command.now))
-        (λ x _. having (content_at report.new) switches.new.items
-        ≡ next x (place_as place.now) (having (content_at report.old) switches.old.items) (report_as command.now))
-        port.old port.new result }
+    ensures found { Takes P.RepoPort port.old port.new (known_in report.old switches.old.items)
+        (known_in report.new switches.new.items) place.now (report_as command.now) result }
     ensures stays { PortStays P.RepoPort port.old port.new }
 {
     match command {
@@ -153,11 +141,8 @@ fn set_path<P: RepoPort>(
     switches: &[Switched],
     path: &Reported,
 ) -> Result<(), Stop>
-    ensures found { Finds P.RepoPort
-        (λ x. next_denied x (place_as place.now) (having (content_at report.old) switches.now) (SetPath (reported_as path.now)))
-        (λ x _. having (content_at report.new) switches.now
-        ≡ next x (place_as place.now) (having (content_at report.old) switches.now) (SetPath (reported_as path.now)))
-        port.old port.new result }
+    ensures found { Takes P.RepoPort port.old port.new (known_in report.old switches.now)
+        (known_in report.new switches.now) place.now (SetPath (reported_as path.now)) result }
     ensures stays { PortStays P.RepoPort port.old port.new }
 {
     match lying(alloc, &place.path, switches, &path.path) {
@@ -176,11 +161,8 @@ fn link_path<P: RepoPort>(
     path: &Reported,
     url: &[u8],
 ) -> Result<(), Stop>
-    ensures found { Finds P.RepoPort
-        (λ x. next_denied x (place_as place.now) (having (content_at report.old) switches.old.items) (LinkPath (reported_as path.now) url.now))
-        (λ x _. having (content_at report.new) switches.new.items
-        ≡ next x (place_as place.now) (having (content_at report.old) switches.old.items) (LinkPath (reported_as path.now) url.now))
-        port.old port.new result }
+    ensures found { Takes P.RepoPort port.old port.new (known_in report.old switches.old.items)
+        (known_in report.new switches.new.items) place.now (LinkPath (reported_as path.now) url.now) result }
     ensures stays { PortStays P.RepoPort port.old port.new }
 {
     if let Some(why) = links_denied(switches.as_slice()) {
@@ -201,11 +183,8 @@ fn switch<P: RepoPort>(
     path: &Reported,
     source: NodePath,
 ) -> Result<(), Stop>
-    ensures found { Finds P.RepoPort
-        (λ x. source_denied x (content_at report.old) (reported_as path.now) source)
-        (λ x _. having (content_at report.new) switches.new.items
-        ≡ having (with_source x (content_at report.old) (reported_as path.now) source)
-        (switches.old.items ++ switched path.now.path source ∷ [])) port.old port.new result }
+    ensures found { TakesLink P.RepoPort port.old port.new (known_in report.old switches.old.items)
+        (known_in report.new switches.new.items) path.now source result }
     ensures stays { PortStays P.RepoPort port.old port.new }
 {
     match bring(alloc, port, report, path, &source) {
@@ -235,8 +214,7 @@ fn push_switched(
 
 // Nothing at a path.
 fn delete_path(alloc: Global, report: &mut Report, path: &NodePath) -> Result<(), Stop>
-    ensures { Decides (fault_if (same_path path.now []) BadReport)
-        (λ _. (q : Path) → content_at report.new q ≡ placed (content_at report.old) path.now (λ _. None) q) result }
+    ensures { Places (fault_if (same_path path.now []) BadReport) report.old report.new path.now (λ _. None) result }
 {
     match report.delete_path(alloc, path) {
         Ok(()) => Ok(()),
@@ -252,10 +230,7 @@ fn bring<P: RepoPort>(
     path: &Reported,
     source: &NodePath,
 ) -> Result<(), Stop>
-    ensures found { Finds P.RepoPort
-        (λ x. source_denied x (content_at report.old) (reported_as path.now) source.now)
-        (λ x _. (q : Path) → content_at report.new q
-        ≡ with_source x (content_at report.old) (reported_as path.now) source.now q) port.old port.new result }
+    ensures found { Brings P.RepoPort port.old port.new report.old report.new path.now source.now result }
     ensures stays { PortStays P.RepoPort port.old port.new }
 {
     match tree_asked(port, Some(path.revision)) {
@@ -276,9 +251,8 @@ pub fn bring_from(
     source: &NodePath,
     shown: Shown,
 ) -> Result<(), Stop>
-    ensures { Decides (placing_denied (content_at report.old) path.now tree.now source.now shown)
-        (λ _. (q : Path) → content_at report.new q
-        ≡ placed (content_at report.old) path.now (brought shown tree.now source.now) q) result }
+    ensures { Places (placing_denied (content_at report.old) path.now tree.now source.now shown) report.old report.new
+        path.now (brought shown tree.now source.now) result }
 {
     match put(alloc, report, path, tree, source, shown) {
         Ok(()) => Ok(()),
@@ -296,8 +270,7 @@ fn put(
     shown: Shown,
 ) -> Result<(), ReportError>
     ensures answer { Answers (shown_fault shown report.old path.now tree.now source.now) result }
-    ensures ok { OnOk result ((q : Path) → content_at report.new q
-        ≡ placed (content_at report.old) path.now (brought shown tree.now source.now) q) }
+    ensures ok { Reports report.old report.new path.now (brought shown tree.now source.now) result }
 {
     match shown {
         Shown::Emptied => report.set_path(alloc, path, tree, source, true),
@@ -308,14 +281,14 @@ fn put(
 
 /// A path behind the folder's.
 pub fn path_in(alloc: Global, folder: &NodePath, path: &NodePath) -> Result<NodePath, Stop>
-    ensures { Decides (fault_if (not (fits (folder.now ++ path.now))) NoPath) (λ p. p ≡ folder.now ++ path.now) result }
+    ensures { GivesPath (folder.now ++ path.now) result }
 {
     path_below(alloc, folder, path.names())
 }
 
 /// Names behind a path.
 pub fn path_below(alloc: Global, front: &NodePath, rest: &[NodeName]) -> Result<NodePath, Stop>
-    ensures { Decides (fault_if (not (fits (front.now ++ rest.now))) NoPath) (λ p. p ≡ front.now ++ rest.now) result }
+    ensures { GivesPath (front.now ++ rest.now) result }
 {
     match joined(alloc, front, rest) {
         Ok(path) => {

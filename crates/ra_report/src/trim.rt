@@ -3,16 +3,16 @@
 ghost use Rattle.std.specs.Prelude.{◌≡◌, ◌++◌, map, None, IfOk, OnOk};
 ghost use Rattle.std.specs.FinMap as finite;
 ghost use Rattle.std.specs.List.{flat_map, list_any};
-ghost use Rattle.node_base.specs.Path.{Path};
-ghost use Rattle.tree_reports.specs.Reports.{content_at};
 ghost use Rattle.browse_wire.specs.Reports.{report_as};
 ghost use Rattle.ra_browse.specs.Tellings.{Decides};
+ghost use Rattle.ra_report.specs.Given.{TrimsWanted, TrimsCopy};
 ghost use Rattle.ra_report.specs.Plans.{IsTrimmed, IsTrimmedBy};
 ghost use Rattle.ra_report.specs.Reports.{aims_denied};
 ghost use Rattle.ra_report.specs.Shown.{part_as};
-ghost use Rattle.ra_report.specs.Trimmed.{counts, drop_at, drops, had_by, is_dropped, is_left_out, is_shallow, is_whole};
-ghost use Rattle.ra_report.specs.Trimmed.{leaves_out, limit_at, limit_in, limits_in, opens_all, reports, trimmed_by};
+ghost use Rattle.ra_report.specs.Trimmed.{counts, drop_at, drops, is_dropped, is_left_out, is_shallow, is_whole};
+ghost use Rattle.ra_report.specs.Trimmed.{leaves_out, limit_at, limit_in, limits_in, opens_all, reports};
 ghost use Rattle.ra_report.specs.Trimmed.{within_wanted, without};
+ghost use Rattle.tree_reports.specs.Trees.{Makes};
 
 use crate::aim::aimed_all;
 use crate::plan::{Plan, Wanted, WorkingCopy};
@@ -94,8 +94,7 @@ fn trim_wanted(
     wanted: Option<Depth>,
     limits: &[Limit],
 ) -> Result<Wanted, AllocError>
-    ensures { IfOk result (λ w. (w.number ≡ all.number) × (w.whole ≡ all.whole)
-        × ((q : Path) → finite.get w.tree q ≡ trimmed_by wanted target.now limits.now (finite.get all.tree) q)) }
+    ensures { TrimsWanted all wanted target.now limits.now result }
 {
     let Wanted {
         number,
@@ -120,9 +119,7 @@ fn trim_copy(
     full: &Tree,
     limits: &[Limit],
 ) -> Result<WorkingCopy, AllocError>
-    ensures { IfOk result (λ c. (c.base ≡ copy.base) × (c.switches.items ≡ copy.switches.items)
-        × ((q : Path) → content_at c.report q
-        ≡ had_by wanted target.now limits.now (finite.get full.now) (content_at copy.report) q)) }
+    ensures { TrimsCopy copy wanted target.now limits.now full.now result }
 {
     let WorkingCopy {
         report,
@@ -145,7 +142,7 @@ fn looked_at(
     target: &NodePath,
     wanted: Option<Depth>,
 ) -> Result<Tree, AllocError>
-    ensures { IfOk result (λ t. (q : Path) → finite.get t q ≡ within_wanted wanted target.now (finite.get tree) q) }
+    ensures { Makes (within_wanted wanted target.now (finite.get tree)) result }
 {
     let Some(depth) = wanted else {
         return Ok(tree);
@@ -159,8 +156,7 @@ fn looked_at(
 
 // The tree without what limits leave out of all that is wanted.
 fn without(alloc: Global, tree: Tree, full: &Tree, limits: &[Limit]) -> Result<Tree, AllocError>
-    ensures { IfOk result (λ t. (q : Path) → finite.get t q
-        ≡ without (drops (finite.get full.now) limits.now) (finite.get tree) q) }
+    ensures { Makes (without (drops (finite.get full.now) limits.now) (finite.get tree)) result }
 {
     let mut top = tree;
     for limit in limits {
@@ -171,8 +167,7 @@ fn without(alloc: Global, tree: Tree, full: &Tree, limits: &[Limit]) -> Result<T
 
 // The same of one limit.
 fn without_one(alloc: Global, tree: Tree, full: &Tree, limit: &Limit) -> Result<Tree, AllocError>
-    ensures { IfOk result (λ t. (q : Path) → finite.get t q
-        ≡ without (drop_at (finite.get full.now) limit.now) (finite.get tree) q) }
+    ensures { Makes (without (drop_at (finite.get full.now) limit.now) (finite.get tree)) result }
 {
     if is_dropped(full, limit) {
         // For the proof: below a path at which nothing stands, nothing does.
@@ -292,7 +287,8 @@ fn push_of(
     path: &Reported,
     all: &mut Vec<Limit>,
 ) -> Result<(), AllocError>
-    ensures { OnOk result (all.new.items ≡ all.old.items ++ limit_at wanted sparse path.now.path (part_as path.now.depth)) }
+    ensures { OnOk result (all.new.items ≡ all.old.items ++ limit_at wanted sparse path.now.path
+        (part_as path.now.depth)) }
 {
     let part = part_of(path.depth);
     if counts(wanted, sparse, part) {
