@@ -1,3 +1,4 @@
+pub mod Calls
 pub mod Standings
 pub mod Sessions
 pub mod Takings

@@ -1,11 +1,11 @@
 //! A session over an output whose failures are counted.
 
-ghost use Rattle.std.specs.Prelude.{◌≡◌, ◌≤◌, IfOk, IfErr};
+ghost use Rattle.std.specs.Prelude.{◌≡◌, IfErr};
 ghost use Rattle.byte_streams.specs.Causes.{Fails};
-ghost use Rattle.ra_item.specs.ItemStreams.{meanwhile, reader_of};
+ghost use Rattle.ra_item.specs.ItemStreams.{meanwhile};
 ghost use Rattle.ra_serve.specs.Counted.{IsToldOnlyBy};
-ghost use Rattle.ra_reader.specs.Serving.{BrowsesSession};
 ghost use Rattle.ra_browse.specs.Tellings.{PortStays};
+ghost use Rattle.ra_reader.specs.Calls.{CountsReader, ServesSession};
 
 use crate::session::browse;
 use byte_streams::{Input, Lent, Output};
@@ -21,12 +21,11 @@ pub fn browse_to<P: RepoPort, I: Input + Drop, O: Output + Drop>(
     items: &mut ItemStream<I>,
     out: O,
 ) -> Result<(O, End), Unserved<O>>
-    ensures served { IfOk result (λ r. BrowsesSession P.repository P.refusals I.remaining O.contents
-        port.old port.new items.old items.new out r.0 r.1) }
+    ensures served { ServesSession P.RepoPort I.Input O.contents port.old port.new items.old items.new out result }
     ensures reader { IfErr result (λ u. u.fault ≡ ServeFault.ReadFailed
         → Fails (meanwhile I.failures I.reads items.old items.new)) }
     ensures writer { IfErr result (λ u. IsToldOnlyBy O.failures (O.failures out) u.fault u.out) }
-    ensures failures { I.failures (reader_of items.old) ≤ I.failures (reader_of items.new) }
+    ensures failures { CountsReader I.Input items.old items.new }
     ensures stays { PortStays P.RepoPort port.old port.new }
 {
     let before = out.count_failures();

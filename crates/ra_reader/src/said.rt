@@ -1,9 +1,10 @@
 //! What an item says in a report.
 
-ghost use Rattle.std.specs.Prelude.{◌≡◌, IfOk, IfErr, OnOk};
+ghost use Rattle.std.specs.Prelude.{◌≡◌, IfOk, OnOk};
 ghost use Rattle.browse_wire.specs.Reports.{report_in, reported_as};
 ghost use Rattle.browse_wire.specs.declared.fault.BrowseFault.TheVariants as browse;
 ghost use Rattle.ra_browse.specs.Answers.{no_ask};
+ghost use Rattle.ra_reader.specs.Calls.{SparesReader};
 ghost use Rattle.ra_reader.specs.Standings.{without_token, said_in, Spoils};
 ghost use Rattle.ra_reader.specs.Takings.{said_as};
 
@@ -30,7 +31,7 @@ pub enum Said {
 /// What an item says in a report. `OutOfMemory` (70).
 pub fn said_by(alloc: Global, item: Item) -> Result<Said, ServeFault>
     ensures told { IfOk result (λ s. said_as s ≡ said_in (report_in item)) }
-    ensures writer { IfErr result (λ f. f ≡ ServeFault.ReadFailed → ⊥) }
+    ensures writer { SparesReader result }
 {
     match ReportCommand::parse(alloc, item) {
         Ok(ReportCommand::SetPath(state)) => {
@@ -71,7 +72,7 @@ fn without_token(state: Reported) -> Reported
 fn spoiling(fault: BrowseFault) -> Result<Said, ServeFault>
     ensures known { OnOk result (fault ≡ browse.OutOfMemory → ⊥) }
     ensures told { IfOk result (λ s. said_as s ≡ Spoils (no_ask fault)) }
-    ensures writer { IfErr result (λ f. f ≡ ServeFault.ReadFailed → ⊥) }
+    ensures writer { SparesReader result }
 {
     match denial_of(fault) {
         Ok(why) => Ok(Said::Spoils(why)),
@@ -84,7 +85,7 @@ fn spoiling(fault: BrowseFault) -> Result<Said, ServeFault>
 pub fn denial_of(fault: BrowseFault) -> Result<Denial, ServeFault>
     ensures known { OnOk result (fault ≡ browse.OutOfMemory → ⊥) }
     ensures denial { IfOk result (λ d. d ≡ no_ask fault) }
-    ensures writer { IfErr result (λ f. f ≡ ServeFault.ReadFailed → ⊥) }
+    ensures writer { SparesReader result }
 {
     match fault {
         BrowseFault::UnknownCommand => Ok(Denial::Unknown),

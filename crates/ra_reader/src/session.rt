@@ -1,21 +1,21 @@
 //! A session from its greeting to its end.
 
-ghost use Rattle.std.specs.Prelude.{◌≡◌, ◌≤◌, ◌++◌, IfOk, IfErr, OnOk};
+ghost use Rattle.std.specs.Prelude.{◌≡◌, ◌++◌, IfOk, IfErr, OnOk};
 ghost use Rattle.std.specs.Io.KnownBytes.{Appends, Keeps};
-ghost use Rattle.byte_streams.specs.Causes.{Fails};
 ghost use Rattle.uuid.specs.Text.{hyphenated_text, lower};
 ghost use Rattle.node_base.specs.Refusals.{refusal_number, refusal_text};
-ghost use Rattle.ra_item.specs.ItemStreams.{meanwhile, reader_of};
 ghost use Rattle.ra_item.specs.Items.{spell};
 ghost use Rattle.ra_item.specs.declared.fault.NextFault.TheVariants as next;
 ghost use Rattle.ra_wire.specs.Replies.{done, mechanisms, only_anonymous, welcome};
 ghost use Rattle.browse_wire.specs.Urls.{url_read};
 ghost use Rattle.ra_serve.specs.Answers.{refused};
 ghost use Rattle.ra_serve.specs.Serving.{EndsBy};
-ghost use Rattle.ra_reader.specs.Serving.{BrowsesSession, BrowsesLogin, BrowsesCommands};
 ghost use Rattle.ra_reader.specs.Sessions.{greeting, place_in, place_read};
 ghost use Rattle.ra_browse.specs.Tellings.{place_as, PortStays};
-ghost use Rattle.ra_reader.specs.Takings.{placed_as, refusal_for, standing_as, Turns};
+ghost use Rattle.ra_browse.specs.Writing.{TellsBytes, TellsItem};
+ghost use Rattle.ra_reader.specs.Calls.{TakesItem, SparesReader, BlamesReader, CountsReader};
+ghost use Rattle.ra_reader.specs.Calls.{ServesSession, ServesLogin, ServesCommands};
+ghost use Rattle.ra_reader.specs.Takings.{placed_as, refusal_for, standing_as};
 
 use crate::phase::Phase;
 use crate::take::take;
@@ -46,11 +46,9 @@ pub fn browse<P: RepoPort, I: Input + Drop, W: Write + Drop>(
     items: &mut ItemStream<I>,
     out: W,
 ) -> Result<(W, End), ServeFault>
-    ensures served { IfOk result (λ r. BrowsesSession P.repository P.refusals I.remaining W.contents
-        port.old port.new items.old items.new out r.0 r.1) }
-    ensures reader { IfErr result (λ f. f ≡ ServeFault.ReadFailed
-        → Fails (meanwhile I.failures I.reads items.old items.new)) }
-    ensures failures { I.failures (reader_of items.old) ≤ I.failures (reader_of items.new) }
+    ensures served { ServesSession P.RepoPort I.Input W.contents port.old port.new items.old items.new out result }
+    ensures reader { BlamesReader I.Input items.old items.new result }
+    ensures failures { CountsReader I.Input items.old items.new }
     ensures stays { PortStays P.RepoPort port.old port.new }
 {
     let out = greet(out)?;
@@ -106,7 +104,7 @@ impl Misplaced {
 // Where a client's greeting places the session.
 fn placed(alloc: Global, item: Item) -> Result<Result<SessionUrl, Misplaced>, ServeFault>
     ensures told { IfOk result (λ r. placed_as r ≡ place_in item) }
-    ensures reader { IfErr result (λ f. f ≡ ServeFault.ReadFailed → ⊥) }
+    ensures reader { SparesReader result }
 {
     match Hello::parse(alloc, item) {
         Ok(hello) => placed_at(alloc, hello.url.as_slice()),
@@ -118,7 +116,7 @@ fn placed(alloc: Global, item: Item) -> Result<Result<SessionUrl, Misplaced>, Se
 // Where a URL places it.
 fn placed_at(alloc: Global, url: &[u8]) -> Result<Result<SessionUrl, Misplaced>, ServeFault>
     ensures told { IfOk result (λ r. placed_as r ≡ place_read (url_read url.now)) }
-    ensures reader { IfErr result (λ f. f ≡ ServeFault.ReadFailed → ⊥) }
+    ensures reader { SparesReader result }
 {
     match SessionUrl::parse(alloc, url) {
         Ok(place) => Ok(Ok(place)),
@@ -130,8 +128,8 @@ fn placed_at(alloc: Global, url: &[u8]) -> Result<Result<SessionUrl, Misplaced>,
 
 // The greeting, which the client awaits.
 fn greet<W: Write + Drop>(out: W) -> Result<W, ServeFault>
-    ensures sent { IfOk result (λ w. Appends (W.contents out) (W.contents w) (spell greeting)) }
-    ensures writer { IfErr result (λ f. f ≡ ServeFault.ReadFailed → ⊥) }
+    ensures sent { TellsItem W.Write out greeting result }
+    ensures writer { SparesReader result }
 {
     let mut out = out;
     write_greeting(&mut out)?;
@@ -147,7 +145,7 @@ fn write_greeting<W: Write>(out: &mut W) -> io::Result<()>
 // What is kept back goes out.
 fn flushed<W: Write + Drop>(out: W) -> Result<W, ServeFault>
     ensures kept { IfOk result (λ w. Keeps (W.contents out) (W.contents w)) }
-    ensures writer { IfErr result (λ f. f ≡ ServeFault.ReadFailed → ⊥) }
+    ensures writer { SparesReader result }
 {
     let mut out = out;
     out.flush()?;
@@ -174,11 +172,10 @@ fn log_in<P: RepoPort, I: Input + Drop, W: Write + Drop>(
     items: &mut ItemStream<I>,
     out: W,
 ) -> Result<(W, End), ServeFault>
-    ensures served { IfOk result (λ r. BrowsesLogin P.repository P.refusals I.remaining W.contents
-        (place_as place) port.old port.new items.old items.new out r.0 r.1) }
-    ensures reader { IfErr result (λ f. f ≡ ServeFault.ReadFailed
-        → Fails (meanwhile I.failures I.reads items.old items.new)) }
-    ensures failures { I.failures (reader_of items.old) ≤ I.failures (reader_of items.new) }
+    ensures served { ServesLogin P.RepoPort I.Input W.contents port.old port.new items.old items.new out
+        (place_as place) result }
+    ensures reader { BlamesReader I.Input items.old items.new result }
+    ensures failures { CountsReader I.Input items.old items.new }
     ensures stays { PortStays P.RepoPort port.old port.new }
 {
     let identity = port.identity();
@@ -206,9 +203,8 @@ fn log_in<P: RepoPort, I: Input + Drop, W: Write + Drop>(
 
 // Asks the client who it is.
 fn ask_who<W: Write + Drop>(identity: &Uuid, out: W) -> Result<W, ServeFault>
-    ensures sent { IfOk result (λ w. Appends (W.contents out) (W.contents w)
-        (spell (mechanisms (hyphenated_text lower identity.now)))) }
-    ensures writer { IfErr result (λ f. f ≡ ServeFault.ReadFailed → ⊥) }
+    ensures sent { TellsItem W.Write out (mechanisms (hyphenated_text lower identity.now)) result }
+    ensures writer { SparesReader result }
 {
     let mut out = out;
     write_realm(&mut out, identity)?;
@@ -217,9 +213,9 @@ fn ask_who<W: Write + Drop>(identity: &Uuid, out: W) -> Result<W, ServeFault>
 
 // The end of an opening.
 fn welcome<W: Write + Drop>(identity: &Uuid, root_url: &[u8], out: W) -> Result<W, ServeFault>
-    ensures sent { IfOk result (λ w. Appends (W.contents out) (W.contents w)
-        (spell done ++ spell (welcome (hyphenated_text lower identity.now) root_url.now))) }
-    ensures writer { IfErr result (λ f. f ≡ ServeFault.ReadFailed → ⊥) }
+    ensures sent { TellsBytes W.Write out
+        (spell done ++ spell (welcome (hyphenated_text lower identity.now) root_url.now)) result }
+    ensures writer { SparesReader result }
 {
     let mut out = out;
     write_done(&mut out)?;
@@ -229,8 +225,8 @@ fn welcome<W: Write + Drop>(identity: &Uuid, root_url: &[u8], out: W) -> Result<
 
 // The client says in another way who it is.
 fn only_anonymous<W: Write + Drop>(out: W) -> Result<W, ServeFault>
-    ensures sent { IfOk result (λ w. Appends (W.contents out) (W.contents w) (spell only_anonymous)) }
-    ensures writer { IfErr result (λ f. f ≡ ServeFault.ReadFailed → ⊥) }
+    ensures sent { TellsItem W.Write out only_anonymous result }
+    ensures writer { SparesReader result }
 {
     let mut out = out;
     write_only_anonymous(&mut out)?;
@@ -239,8 +235,8 @@ fn only_anonymous<W: Write + Drop>(out: W) -> Result<W, ServeFault>
 
 // The client's item places no session.
 fn refuse_opening<W: Write + Drop>(why: Misplaced, out: W) -> Result<W, ServeFault>
-    ensures sent { IfOk result (λ w. Appends (W.contents out) (W.contents w) (refused (refusal_for why))) }
-    ensures writer { IfErr result (λ f. f ≡ ServeFault.ReadFailed → ⊥) }
+    ensures sent { TellsBytes W.Write out (refused (refusal_for why)) result }
+    ensures writer { SparesReader result }
 {
     let mut out = out;
     write_refused(&mut out, why)?;
@@ -261,11 +257,10 @@ fn commands<P: RepoPort, I: Input + Drop, W: Write + Drop>(
     items: &mut ItemStream<I>,
     out: W,
 ) -> Result<(W, End), ServeFault>
-    ensures served { IfOk result (λ r. BrowsesCommands P.repository P.refusals I.remaining W.contents
-        (place_as place) port.old port.new items.old items.new out r.0 r.1) }
-    ensures reader { IfErr result (λ f. f ≡ ServeFault.ReadFailed
-        → Fails (meanwhile I.failures I.reads items.old items.new)) }
-    ensures failures { I.failures (reader_of items.old) ≤ I.failures (reader_of items.new) }
+    ensures served { ServesCommands P.RepoPort I.Input W.contents port.old port.new items.old items.new out
+        (place_as place) result }
+    ensures reader { BlamesReader I.Input items.old items.new result }
+    ensures failures { CountsReader I.Input items.old items.new }
     ensures stays { PortStays P.RepoPort port.old port.new }
 {
     let mut here = place;
@@ -294,10 +289,10 @@ fn turn<P: RepoPort, W: Write + Drop>(
     item: Item,
     out: W,
 ) -> Result<(Phase, W), ServeFault>
-    ensures told { IfOk result (λ r. Turns P.repository P.refusals W.contents (standing_as place.old phase) item
-        port.old port.new out r.1 (standing_as place.new r.0)) }
+    ensures told { TakesItem P.RepoPort W.Write port.old port.new out (standing_as place.old phase) item
+        place.new result }
     ensures stays { PortStays P.RepoPort port.old port.new }
-    ensures writer { IfErr result (λ f. f ≡ ServeFault.ReadFailed → ⊥) }
+    ensures writer { SparesReader result }
 {
     match take(alloc, port, place, phase, item, out) {
         Ok((phase, out)) => {

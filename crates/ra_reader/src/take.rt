@@ -11,11 +11,13 @@ ghost use Rattle.browse_wire.specs.Reports.{report_as, report_in};
 ghost use Rattle.ra_browse.specs.declared.denial.Denial.TheVariants.{BadShape};
 ghost use Rattle.ra_browse.specs.Denials.{denied};
 ghost use Rattle.ra_browse.specs.Tellings.{place_as, PortStays};
+ghost use Rattle.ra_browse.specs.Writing.{TellsBytes, TellsItem};
 ghost use Rattle.ra_report.specs.Edits.{Edit};
 ghost use Rattle.ra_report.specs.Orders.{awaits_report};
+ghost use Rattle.ra_reader.specs.Calls.{TakesItem, PassesItem};
 ghost use Rattle.ra_reader.specs.Standings.{Spoilt, Edited, AtEnd, standing_at, ready_at, said_in, more_said, behind_edit};
 ghost use Rattle.ra_reader.specs.Standings.{abort_edit, edit_judged};
-ghost use Rattle.ra_reader.specs.Takings.{reporting_as, phase_as, standing_as, Passes, Turns};
+ghost use Rattle.ra_reader.specs.Takings.{reporting_as, phase_as, standing_as};
 
 use crate::phase::{Order, Phase};
 use crate::said::{Said, denial_of, said_by};
@@ -47,8 +49,8 @@ pub fn take<P: RepoPort, W: Write + Drop>(
     item: Item,
     out: W,
 ) -> Result<(Phase, W), ServeFault>
-    ensures told { IfOk result (λ r. Turns P.repository P.refusals W.contents (standing_as place.old phase) item
-        port.old port.new out r.1 (standing_as place.new r.0)) }
+    ensures told { TakesItem P.RepoPort W.Write port.old port.new out (standing_as place.old phase) item
+        place.new result }
     ensures stays { PortStays P.RepoPort port.old port.new }
 {
     match phase {
@@ -67,8 +69,8 @@ fn take_command<P: RepoPort, W: Write + Drop>(
     item: Item,
     out: W,
 ) -> Result<(Phase, W), ServeFault>
-    ensures told { IfOk result (λ r. Turns P.repository P.refusals W.contents (ready_at (place_as place.old)) item
-        port.old port.new out r.1 (standing_as place.new r.0)) }
+    ensures told { TakesItem P.RepoPort W.Write port.old port.new out (ready_at (place_as place.old)) item
+        place.new result }
     ensures stays { PortStays P.RepoPort port.old port.new }
 {
     match BrowseCommand::parse(alloc, item) {
@@ -89,8 +91,8 @@ fn follow<P: RepoPort, W: Write + Drop>(
     command: BrowseCommand,
     out: W,
 ) -> Result<(Phase, W), ServeFault>
-    ensures told { (item : Item) → ask_in item ≡ Ok (ask_as command) → IfOk result (λ r. Turns P.repository P.refusals
-        W.contents (ready_at (place_as place.old)) item port.old port.new out r.1 (standing_as place.new r.0)) }
+    ensures told { (item : Item) → ask_in item ≡ Ok (ask_as command) → TakesItem P.RepoPort W.Write port.old port.new
+        out (ready_at (place_as place.old)) item place.new result }
     ensures stays { PortStays P.RepoPort port.old port.new }
 {
     if awaits_report(&command) {
@@ -108,8 +110,8 @@ fn take_order<W: Write + Drop>(
     out: W,
 ) -> Result<(Phase, W), ServeFault>
     requires awaited { awaits_report (ask_as command) ≡ true }
-    ensures told { (item : Item) → ask_in item ≡ Ok (ask_as command) → IfOk result (λ r. Passes W.contents
-        (ready_at (place_as place.now)) item out r.1 (standing_as place.now r.0)) }
+    ensures told { (item : Item) → ask_in item ≡ Ok (ask_as command) → PassesItem W.Write out
+        (ready_at (place_as place.now)) item place.now result }
 {
     match ordered(alloc, place, &command) {
         Ok(()) => {
@@ -133,8 +135,8 @@ fn take_report<P: RepoPort, W: Write + Drop>(
     item: Item,
     out: W,
 ) -> Result<(Phase, W), ServeFault>
-    ensures told { IfOk result (λ r. Turns P.repository P.refusals W.contents (reporting_as place.now order) item
-        port.old port.new out r.1 (standing_as place.now r.0)) }
+    ensures told { TakesItem P.RepoPort W.Write port.old port.new out (reporting_as place.now order) item
+        place.now result }
     ensures stays { PortStays P.RepoPort port.old port.new }
 {
     match said_by(alloc, item) {
@@ -176,8 +178,8 @@ fn take_end<P: RepoPort, W: Write + Drop>(
     order: Order,
     out: W,
 ) -> Result<(Phase, W), ServeFault>
-    ensures told { (item : Item) → said_in (report_in item) ≡ AtEnd → IfOk result (λ r. Turns P.repository P.refusals
-        W.contents (reporting_as place.now order) item port.old port.new out r.1 (standing_as place.now r.0)) }
+    ensures told { (item : Item) → said_in (report_in item) ≡ AtEnd → TakesItem P.RepoPort W.Write port.old port.new out
+        (reporting_as place.now order) item place.now result }
     ensures stays { PortStays P.RepoPort port.old port.new }
 {
     match finish(
@@ -208,8 +210,7 @@ fn take_spoilt<W: Write + Drop>(
     item: Item,
     out: W,
 ) -> Result<(Phase, W), ServeFault>
-    ensures { IfOk result (λ r. Passes W.contents (standing_at (place_as place.now) (Spoilt why)) item
-        out r.1 (standing_as place.now r.0)) }
+    ensures { PassesItem W.Write out (standing_at (place_as place.now) (Spoilt why)) item place.now result }
 {
     match said_by(alloc, item) {
         Ok(Said::More(_report)) => Ok((Phase::Spoilt(why), out)),
@@ -233,8 +234,7 @@ fn take_reply<W: Write + Drop>(
     item: Item,
     out: W,
 ) -> Result<(Phase, W), ServeFault>
-    ensures { IfOk result (λ r. Passes W.contents (standing_at (place_as place.now) Edited) item
-        out r.1 (standing_as place.now r.0)) }
+    ensures { PassesItem W.Write out (standing_at (place_as place.now) Edited) item place.now result }
 {
     let out = judge(alloc, item, out)?;
     Ok((Phase::Idle, out))
@@ -242,7 +242,7 @@ fn take_reply<W: Write + Drop>(
 
 // The same, as it is told.
 fn judge<W: Write + Drop>(alloc: Global, item: Item, out: W) -> Result<W, ServeFault>
-    ensures { IfOk result (λ w. Appends (W.contents out) (W.contents w) (edit_judged (reply_in item))) }
+    ensures { TellsBytes W.Write out (edit_judged (reply_in item)) result }
 {
     match Reply::parse(alloc, item) {
         Ok(Reply::Success(_)) => done(out),
@@ -254,8 +254,7 @@ fn judge<W: Write + Drop>(alloc: Global, item: Item, out: W) -> Result<W, ServeF
 
 // Why a client didn't apply an edit, the outermost cause first.
 fn tell_back<W: Write + Drop>(refused: &[Refused], out: W) -> Result<W, ServeFault>
-    ensures { IfOk result (λ w. Appends (W.contents out) (W.contents w)
-        (edit_judged (Some (Failure (map refused_as refused.now))))) }
+    ensures { TellsBytes W.Write out (edit_judged (Some (Failure (map refused_as refused.now)))) result }
 {
     match refused.first() {
         Some(first) => give_up(first.number, first.text.as_slice(), out),
@@ -265,7 +264,7 @@ fn tell_back<W: Write + Drop>(refused: &[Refused], out: W) -> Result<W, ServeFau
 
 // An edit of which the client says another thing.
 fn other_reply<W: Write + Drop>(out: W) -> Result<W, ServeFault>
-    ensures { IfOk result (λ w. Appends (W.contents out) (W.contents w) (spell abort_edit ++ denied BadShape)) }
+    ensures { TellsBytes W.Write out (spell abort_edit ++ denied BadShape) result }
 {
     let mut out = out;
     write_abort(&mut out)?;
@@ -274,8 +273,7 @@ fn other_reply<W: Write + Drop>(out: W) -> Result<W, ServeFault>
 
 // An edit that wasn't applied.
 fn give_up<W: Write + Drop>(number: u64, text: &[u8], out: W) -> Result<W, ServeFault>
-    ensures { IfOk result (λ w. Appends (W.contents out) (W.contents w)
-        (spell abort_edit ++ spell (failure number text.now))) }
+    ensures { TellsBytes W.Write out (spell abort_edit ++ spell (failure number text.now)) result }
 {
     let mut out = out;
     write_abort(&mut out)?;
@@ -292,7 +290,7 @@ fn write_abort<W: Write>(out: &mut W) -> io::Result<()>
 
 // An answer without content.
 fn done<W: Write + Drop>(out: W) -> Result<W, ServeFault>
-    ensures { IfOk result (λ w. Appends (W.contents out) (W.contents w) (spell done)) }
+    ensures { TellsItem W.Write out done result }
 {
     let mut out = out;
     write_done(&mut out)?;
