@@ -1,5 +1,5 @@
 -- What a run over a mirror's store and a server says and leaves.
-use Rattle.std.specs.Prelude.{◌≡◌, ◌⊎◌, ℕ, List, Option, Result, Err, string_bytes}
+use Rattle.std.specs.Prelude.{◌≡◌, ◌⊎◌, ℕ, List, Option, Result, Err, IfErr, string_bytes}
 use Rattle.fleet_disk.specs.declared.disk.Disk.{Ghosts}
 use Rattle.byte_streams.specs.Causes.{Rose}
 use Rattle.byte_streams.specs.declared.input.Input.{Ghosts as InputGhosts}
@@ -11,8 +11,9 @@ use Rattle.sync_core.specs.declared.fault.SyncFault.{SyncFault}
 use Rattle.sync_job.specs.Masters.{fault_text}
 use Rattle.sync_job.specs.Questions.{Exchange}
 use Rattle.sync_job.specs.Said.{Spoken}
-use Rattle.mirror_engines.specs.Runs.{Serves}
+use Rattle.mirror_engines.specs.Runs.{IsWorked, Serves}
 use Rattle.mirror_engines.specs.Worlds.{unknown}
+use Rattle.mirror_engines.specs.declared.work.Work.{Work}
 use Rattle.ra_client.specs.Deltas.{session_of, deltas_answered_by}
 use Rattle.ra_client.specs.Masters.{answered_by, of_client}
 use Rattle.ra_client.specs.Ports.{IsOpened}
@@ -50,3 +51,19 @@ RunsDeltasAt {R} {C} {D} {O} {G} g h url input commands = RunsBy {P = DeltaPort 
 pub data RunsFrom {D O : Type 0} {G : Ghosts D} (contents : O → Option (List ℕ)) (failures : O → ℕ) (IsRun : List Spoken → Result (Unit {0}) SyncFault → Type 0) (old new : RepoStore D G) (before now : O) (result : Result (Unit {0}) Refusal) : Type 0 where
   Unreached : (e : Refusal) → result ≡ Err e → IsUnreached e → new ≡ old → now ≡ before → RunsFrom contents failures IsRun old new before now result
   Reached : RunsOver contents failures IsRun old new before now result → RunsFrom contents failures IsRun old new before now result
+
+-- the work is such a run, and what its output holds
+abbrev pub WorksFrom : {D O : Type 0} {G : Ghosts D} → OutputGhosts O → RepoStore D G → RepoStore D G → O → O → Work → Result (Unit {0}) Refusal → Type 0
+WorksFrom W old new before now w result = RunsFrom W.contents W.failures (IsWorked w) old new before now result
+
+-- over a session of that input and output
+abbrev pub WorksAt : {R C O D : Type 0} {G : Ghosts D} → InputGhosts R → OutputGhosts C → OutputGhosts O → List ℕ → R → C → RepoStore D G → RepoStore D G → O → O → Work → Result (Unit {0}) Refusal → Type 0
+WorksAt g h W url input commands old new before now w result = RunsAt g h url input commands W.contents W.failures (IsWorked w) old new before now result
+
+-- and over one whose server sends texts as differences
+abbrev pub WorksDeltasAt : {R C O D : Type 0} {G : Ghosts D} → InputGhosts R → OutputGhosts C → OutputGhosts O → List ℕ → R → C → RepoStore D G → RepoStore D G → O → O → Work → Result (Unit {0}) Refusal → Type 0
+WorksDeltasAt g h W url input commands old new before now w result = RunsDeltasAt g h url input commands W.contents W.failures (IsWorked w) old new before now result
+
+-- PeerFailed (49) comes only where the output failed
+abbrev pub IsOutputFailure : {O T : Type 0} → OutputGhosts O → O → O → Result T Refusal → Type 0
+IsOutputFailure W before now result = IfErr result (λ e. e ≡ refusal.PeerFailed → Rose (W.failures before) (W.failures now))

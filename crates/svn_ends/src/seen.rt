@@ -1,9 +1,8 @@
 //! What a seat reads of a share.
 
-ghost use Rattle.std.specs.Prelude.{◌≡◌, ◌≤◌, ◌<◌, true, false, length, Some, IfOk, OnOk};
-ghost use Rattle.std.specs.Option.{option_map};
-ghost use Rattle.store_share.specs.Seats.{known_by, seen_by};
-ghost use Rattle.svn_ends.specs.Seats.{AreRead, Keeps};
+ghost use Rattle.std.specs.Prelude.{◌≡◌, ◌≤◌, ◌<◌, true, false, length, Some, OnOk};
+ghost use Rattle.store_share.specs.Seats.{seen_by};
+ghost use Rattle.svn_ends.specs.Seats.{AreRead, Keeps, GivesTree, GivesSet, ReplaysSet};
 
 use crate::shares::ServedShare;
 use dump_load::ChangeSet;
@@ -39,7 +38,7 @@ pub(crate) fn seen_tree<L: RowName, S: ServedShare<L>>(
     number: RevNo,
 ) -> Result<Tree, AllocError>
     requires { number ≤ seen_by seat.old }
-    ensures tree { IfOk result (λ t. option_map (λ x. x.tree) (known_by seat.new number) ≡ Some t) }
+    ensures tree { GivesTree seat.new number result }
     ensures keeps { Keeps seat.old seat.new }
     ensures seen { seen_by seat.new ≡ seen_by seat.old }
 {
@@ -57,7 +56,7 @@ pub(crate) fn seen_set<L: RowName, S: ServedShare<L>>(
     number: RevNo,
 ) -> Result<ChangeSet, AllocError>
     requires { number ≤ seen_by seat.old }
-    ensures set { IfOk result (λ s. option_map (λ x. x.set) (known_by seat.new number) ≡ Some s) }
+    ensures set { GivesSet seat.new number result }
     ensures keeps { Keeps seat.old seat.new }
     ensures seen { seen_by seat.new ≡ seen_by seat.old }
 {
@@ -100,7 +99,7 @@ pub(crate) fn seen_replay<R: Wait, L: RowName, S: ServedShare<L>>(
     number: RevNo,
 ) -> Result<Replay, StoreFault>
     requires { number ≤ seen_by seat.old }
-    ensures set { IfOk result (λ p. option_map (λ x. x.set) (known_by seat.new number) ≡ Some p.set) }
+    ensures set { ReplaysSet seat.new number result }
     ensures keeps { Keeps seat.old seat.new }
     ensures seen { seen_by seat.new ≡ seen_by seat.old }
 {

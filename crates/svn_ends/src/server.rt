@@ -1,10 +1,8 @@
 //! The server.
 
-ghost use Rattle.std.specs.Prelude.{◌≡◌, OnOk};
-ghost use Rattle.std.specs.Io.KnownBytes.{Appends};
-ghost use Rattle.sockets.specs.Lines.{listening};
+ghost use Rattle.std.specs.Prelude.{◌≡◌};
 ghost use Rattle.store_share.specs.Opened.{cells_of};
-ghost use Rattle.svn_ends.specs.Served.{IsOfStore};
+ghost use Rattle.svn_ends.specs.Served.{IsOfStore, SaysWhere};
 
 use crate::shares::ServedShare;
 use crate::talk::{ShareSessions, root_url};
@@ -54,7 +52,7 @@ pub fn serve_store<
     teller: &T,
     output: &mut W,
 ) -> (D, Result<(), SocketFault>)
-    ensures told { OnOk result.1 (Appends (W.contents output.old) (W.contents output.new) (listening address.now.port)) }
+    ensures told { SaysWhere W.Write output.old output.new address.now.port result.1 }
     ensures back { IsOfStore D.Disk result.0 }
 {
     match OpenedStore::of(alloc, store) {
@@ -93,7 +91,7 @@ fn serve_opened<
     output: &mut W,
 ) -> (D, Result<(), SocketFault>)
     requires { cells_of opened ≡ L.cells }
-    ensures told { OnOk result.1 (Appends (W.contents output.old) (W.contents output.new) (listening address.now.port)) }
+    ensures told { SaysWhere W.Write output.old output.new address.now.port result.1 }
     ensures back { IsOfStore D.Disk result.0 }
 {
     let share = opened.named::<L>();
@@ -125,7 +123,7 @@ pub fn serve_mirror<
     teller: &T,
     output: &mut W,
 ) -> Result<(), SocketFault>
-    ensures { OnOk result (Appends (W.contents output.old) (W.contents output.new) (listening address.now.port)) }
+    ensures { SaysWhere W.Write output.old output.new address.now.port result }
 {
     serve_share::<R, L, MirrorShare<L, D>, W, T>(
         rt, alloc, share, true, address, limits, teller, output,
@@ -149,7 +147,7 @@ fn serve_share<
     teller: &T,
     output: &mut W,
 ) -> Result<(), SocketFault>
-    ensures { OnOk result (Appends (W.contents output.old) (W.contents output.new) (listening address.now.port)) }
+    ensures { SaysWhere W.Write output.old output.new address.now.port result }
 {
     let Ok(root_url) = root_url(alloc, address) else {
         return Err(SocketFault::OutOfMemory);

@@ -1,10 +1,9 @@
 //! A share as its sessions have it.
-ghost use Rattle.std.specs.Prelude.{◌≡◌, ◌≤◌, ◌⊎◌, ℕ, Some, IfOk, IfErr, IfSome, IfNone};
+ghost use Rattle.std.specs.Prelude.{◌≡◌, ◌≤◌, ◌⊎◌, ℕ, IfOk, IfErr, IfNone};
 ghost use Rattle.gate_log.specs.declared.fault.LogFault.TheVariants as log;
 ghost use Rattle.repo_core.specs.declared.fault.RepoFault.TheVariants as core;
 ghost use Rattle.repo_store.specs.declared.fault.StoreFault.TheVariants as fault;
-ghost use Rattle.store_share.specs.declared.rev.Rev.{Rev as RevOf};
-ghost use Rattle.store_share.specs.Seats.{known_by, seen_by};
+ghost use Rattle.store_share.specs.Seats.{seen_by, KeepsSeen, KeepsFound, ReadsAs};
 
 use fleet_disk::Disk;
 use gate_log::LogFault;
@@ -40,15 +39,15 @@ pub trait ServedShare<L: RowName> {
     fn latest<R: Wait>(&self, rt: &R, reader: &mut ReaderSeat<L>) -> RevNo
         ensures most { seen_by reader.old ≤ result }
         ensures seen { seen_by reader.new ≡ result }
-        ensures kept { (r : ℕ) → r ≤ seen_by reader.old → known_by reader.new r ≡ known_by reader.old r };
+        ensures kept { KeepsSeen reader.old reader.new };
 
     /// The revision of that number, where the reader has seen it or its cell shows it. It waits for nobody, and takes
     /// no memory. What the reader has seen it reads for good.
     fn read_at<'a>(&'a self, reader: &mut ReaderSeat<L>, number: RevNo) -> Option<&'a Rev>
         ensures there { number ≤ seen_by reader.old → IfNone result ⊥ }
-        ensures number { IfSome result (λ r. (r.now.number ≡ number) × (known_by reader.new number ≡ Some r.now)) }
+        ensures number { ReadsAs reader.new number result }
         ensures seen { seen_by reader.new ≡ seen_by reader.old }
-        ensures kept { (r : ℕ) (x : RevOf) → known_by reader.old r ≡ Some x → known_by reader.new r ≡ Some x };
+        ensures kept { KeepsFound reader.old reader.new };
 
     /// The properties that a revision has now. NoSuchRevision (21) above the head, OutOfMemory (70).
     fn fetch_props<R: Wait>(&self, rt: &R, number: RevNo) -> Result<Props, StoreFault>

@@ -1,10 +1,8 @@
 //! A session's seat, with the trees that were read from it.
 
-ghost use Rattle.std.specs.Prelude.{◌≡◌, ◌≤◌, ◌<◌, true, false, take, length, Some, IfOk, OnOk};
-ghost use Rattle.std.specs.Option.{option_map};
-ghost use Rattle.store_share.specs.Chains.{trees_known};
-ghost use Rattle.store_share.specs.Seats.{known_by, seen_by};
-ghost use Rattle.svn_ends.specs.Seats.{AreRead, Keeps};
+ghost use Rattle.std.specs.Prelude.{◌≡◌, ◌≤◌, ◌<◌, true, false, length, OnOk};
+ghost use Rattle.store_share.specs.Seats.{seen_by};
+ghost use Rattle.svn_ends.specs.Seats.{AreRead, Keeps, AreReadBelow, GivesTree, ReplaysSet};
 
 use crate::seen::{read_trees, seen_replay, seen_tree, sees};
 use crate::shares::ServedShare;
@@ -67,7 +65,7 @@ impl<L: RowName> TreeSeat<L> {
         number: RevNo,
     ) -> Result<Tree, AllocError>
         requires { number ≤ seen_by self.old.seat }
-        ensures tree { IfOk result (λ t. option_map (λ x. x.tree) (known_by self.new.seat number) ≡ Some t) }
+        ensures tree { GivesTree self.new.seat number result }
         ensures keeps { Keeps self.old.seat self.new.seat }
         ensures seen { seen_by self.new.seat ≡ seen_by self.old.seat }
     {
@@ -84,8 +82,8 @@ impl<L: RowName> TreeSeat<L> {
         number: RevNo,
     ) -> Result<Replay, StoreFault>
         requires { number ≤ seen_by self.old.seat }
-        ensures set { IfOk result (λ p. option_map (λ x. x.set) (known_by self.new.seat number) ≡ Some p.set) }
-        ensures trees { OnOk result (take number self.new.trees.items ≡ trees_known (known_by self.new.seat) number) }
+        ensures set { ReplaysSet self.new.seat number result }
+        ensures trees { OnOk result (AreReadBelow self.new.seat self.new.trees.items number) }
         ensures enough { OnOk result (number ≤ length self.new.trees.items) }
         ensures keeps { Keeps self.old.seat self.new.seat }
         ensures seen { seen_by self.new.seat ≡ seen_by self.old.seat }

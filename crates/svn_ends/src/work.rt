@@ -1,9 +1,7 @@
 //! Runs over a mirror's store and a server.
 
-ghost use Rattle.std.specs.Prelude.{◌≡◌, IfErr, OnOk};
-ghost use Rattle.byte_streams.specs.Causes.{Rose};
-ghost use Rattle.mirror_engines.specs.Runs.{IsWorked};
-ghost use Rattle.svn_ends.specs.Runs.{RunsAt, RunsDeltasAt, RunsFrom};
+ghost use Rattle.std.specs.Prelude.{◌≡◌, OnOk};
+ghost use Rattle.svn_ends.specs.Runs.{IsOutputFailure, WorksAt, WorksDeltasAt, WorksFrom};
 
 use crate::refusals::{refused, unreached};
 use byte_streams::{CountedReader, CountedWriter, Input, Output};
@@ -44,7 +42,7 @@ pub fn run_work_from<R: Net<Stream = TcpStream>, D: Disk + Drop, O: Output + Dro
     work: Work,
     output: O,
 ) -> (RepoStore<D>, O, Result<(), Refusal>)
-    ensures ran { RunsFrom O.contents O.failures (IsWorked work) mirror result.0 output result.1 result.2 }
+    ensures ran { WorksFrom O.Output mirror result.0 output result.1 work result.2 }
     ensures unfailed { OnOk result.2 (O.failures result.1 ≡ O.failures output) }
 {
     let Source { peer, url, deltas } = source;
@@ -64,7 +62,7 @@ fn run_work_on<D: Disk + Drop, O: Output + Drop>(
     work: Work,
     output: O,
 ) -> (RepoStore<D>, O, Result<(), Refusal>)
-    ensures ran { RunsFrom O.contents O.failures (IsWorked work) mirror result.0 output result.1 result.2 }
+    ensures ran { WorksFrom O.Output mirror result.0 output result.1 work result.2 }
     ensures unfailed { OnOk result.2 (O.failures result.1 ≡ O.failures output) }
 {
     let Ok(buffer) = BufWriter::with_capacity(alloc, ROOM, stream) else {
@@ -90,10 +88,10 @@ pub fn run_work_over<D: Disk + Drop, I: Input + Drop, C: Output + Drop, O: Outpu
     work: Work,
     output: O,
 ) -> (RepoStore<D>, O, Result<(), Refusal>)
-    ensures ran { RunsAt I.Input C.Output url.now input commands O.contents O.failures (IsWorked work) mirror
-        result.0 output result.1 result.2 }
+    ensures ran { WorksAt I.Input C.Output O.Output url.now input commands mirror result.0 output result.1 work
+        result.2 }
     ensures unfailed { OnOk result.2 (O.failures result.1 ≡ O.failures output) }
-    ensures peer { IfErr result.2 (λ e. e ≡ Refusal.PeerFailed → Rose (O.failures output) (O.failures result.1)) }
+    ensures peer { IsOutputFailure O.Output output result.1 result.2 }
 {
     match ClientPort::open(alloc, url, input, commands) {
         Ok(master) => run_work(alloc, mirror, master, work, output),
@@ -111,10 +109,10 @@ pub fn run_deltas_over<D: Disk + Drop, I: Input + Drop, C: Output + Drop, O: Out
     work: Work,
     output: O,
 ) -> (RepoStore<D>, O, Result<(), Refusal>)
-    ensures ran { RunsDeltasAt I.Input C.Output url.now input commands O.contents O.failures (IsWorked work) mirror
-        result.0 output result.1 result.2 }
+    ensures ran { WorksDeltasAt I.Input C.Output O.Output url.now input commands mirror result.0 output result.1 work
+        result.2 }
     ensures unfailed { OnOk result.2 (O.failures result.1 ≡ O.failures output) }
-    ensures peer { IfErr result.2 (λ e. e ≡ Refusal.PeerFailed → Rose (O.failures output) (O.failures result.1)) }
+    ensures peer { IsOutputFailure O.Output output result.1 result.2 }
 {
     match DeltaPort::open(alloc, url, input, commands) {
         Ok(port) => run_work(alloc, mirror, port, work, output),
