@@ -1,8 +1,9 @@
 -- What `fleet` does over the repositories that stand in folders, and why it doesn't.
-use Rattle.std.specs.Prelude.{◌≡◌, ◌≤◌, ◌<◌, ◌⊎◌, ◌++◌, ◌+◌, ℕ, Bool, List, [], ◌∷◌, length, map, slice_get, Option, Some, None, Result, Ok, Err, IfOk, Vec, is_some, is_ok, string_bytes}
+use Rattle.std.specs.Prelude.{◌≡◌, ◌≤◌, ◌<◌, ◌⊎◌, ◌++◌, ◌+◌, ℕ, Bool, true, false, List, [], ◌∷◌, length, map, slice_get, Option, Some, None, Result, Ok, Err, IfOk, IfErr, IfSome, Vec, is_some, is_ok, string_bytes}
 use Rattle.std.specs.Io.KnownBytes.{Appends}
 use Rattle.std.specs.List.{list_all, AllZip}
 use Rattle.std.specs.declared.alloc.Global.{Global}
+use Rattle.byte_streams.specs.declared.output.Output.{Ghosts as OutputGhosts}
 use Rattle.fleet_disk.specs.Rules.{Rose}
 use Rattle.fleet_disk.specs.declared.disk.Disk.{Ghosts}
 use Rattle.fleet_jobs.specs.Answers.{Answer}
@@ -16,8 +17,9 @@ use Rattle.fleet_shares.specs.Lines.{lines_of}
 use Rattle.fleet_shares.specs.Stores.{store_at}
 use Rattle.fleet_shares.specs.Told.{stands, AreTold}
 use Rattle.fleet_shares.specs.declared.stores.FleetStores.{FleetStores}
-use Rattle.fleet_main.specs.Doing.{IsKept, IsOpenedOn}
-use Rattle.fleet_main.specs.Loans.{AreBack, Each, Loan, only_of}
+use Rattle.fleet_main.specs.Doing.{EndsWith, HandsOn, IsKept, IsOpenedOn}
+use Rattle.fleet_main.specs.Ending.{TellsLine}
+use Rattle.fleet_main.specs.Loans.{AreBack, Each, Loan, TakesBack, only_of}
 use Rattle.fleet_main.specs.Opening.{NotOpened, NotOpenedIn}
 use Rattle.command_words.specs.declared.fleet_words.Fleet.{Fleet}
 use Rattle.fleet_main.specs.declared.lending.Folders.{Ghosts as FolderGhosts}
@@ -111,3 +113,40 @@ abbrev pub NotFleetRun : {F D : Type 0} → Ghosts D → FolderGhosts F D → F 
 NotFleetRun G H folders later fleet before start now count e =
     (NotBrought G H folders later (string_bytes fleet.master) (map string_bytes fleet.mirrors.items) e × (now ≡ before))
     ⊎ (OfFleet G H folders later (string_bytes fleet.master) (map string_bytes fleet.mirrors.items) (AreUntold G) × (e ≡ refusal.PeerFailed) × Rose start count)
+
+-- the store in a slot goes back into its folder, and a stop leaves what it keeps
+abbrev pub GivesBack : {F D : Type 0} → (G : Ghosts D) → FolderGhosts F D → F → F → FleetStores D G → ℕ → List ℕ → Type 0
+GivesBack G H old new stores slot folder = IfSome (store_at stores slot) (λ s. TakesBack G H old new folder (disk_of s) × StoreIsKept s)
+
+-- a master and its mirrors are run, and what is told of each mirror
+abbrev pub RunsMirrors : {F D : Type 0} → Ghosts D → FolderGhosts F D → F → F → List ℕ → List (List ℕ) → Result (Vec Answer Global) Refusal → Type 0
+RunsMirrors G H old new master mirrors result = IfOk result (λ answers. OfFleet G H old new master mirrors (AreToldOf G answers.items))
+
+-- the fleet is run
+abbrev pub DoesFleet : {F D O : Type 0} → Ghosts D → FolderGhosts F D → OutputGhosts O → F → F → O → O → Fleet → Result Bool Refusal → Type 0
+DoesFleet G H W old new before now fleet result = IfOk result (λ done. IsFleetRun G H old new fleet (W.contents before) done (W.contents now))
+
+-- why it isn't, and what is left then
+abbrev pub RefusesFleet : {F D O : Type 0} → Ghosts D → FolderGhosts F D → OutputGhosts O → F → F → O → O → Fleet → Result Bool Refusal → Type 0
+RefusesFleet G H W old new before now fleet result =
+    IfErr result (NotFleetRun G H old new fleet (W.contents before) (W.failures before) (W.contents now) (W.failures now))
+
+-- it is run, and its lines are handed on
+abbrev pub DeliversFleet : {F D O : Type 0} → Ghosts D → FolderGhosts F D → OutputGhosts O → F → F → O → O → Fleet → Result Bool Refusal → Type 0
+DeliversFleet G H W old new before now fleet result = IfOk result (λ done. HandsOn (IsFleetRun G H old new fleet (W.contents before) done) (W.contents now))
+
+-- it ends with a refusal, and its lines are handed on as far as the output takes them
+abbrev pub EndsFleet : {F D O : Type 0} → Ghosts D → FolderGhosts F D → OutputGhosts O → F → F → O → O → Fleet → Result Bool Refusal → Type 0
+EndsFleet G H W old new before now fleet result =
+    IfErr result (EndsWith (IsSomeRun G H old new fleet (W.contents before)) (NotFleetRun G H old new fleet (W.contents before) (W.failures before)) (W.failures before) (W.contents now) (W.failures now))
+
+-- its status is 0 where no mirror was refused and its lines are handed on
+abbrev pub SucceedsAtFleet : {F D O : Type 0} → Ghosts D → FolderGhosts F D → OutputGhosts O → F → F → O → O → Fleet → ℕ → Type 0
+SucceedsAtFleet G H W old new before now fleet status = status ≡ 0 → HandsOn (IsFleetRun G H old new fleet (W.contents before) true) (W.contents now)
+
+-- and 1 where a mirror was, with no line of a refusal; or where the fleet is refused, with that line
+abbrev pub FailsAtFleet : {F D O E : Type 0} → Ghosts D → FolderGhosts F D → OutputGhosts O → OutputGhosts E → F → F → O → O → E → E → Fleet → ℕ → Type 0
+FailsAtFleet G H W V old new before now lines told fleet status =
+    status ≡ 1 → (HandsOn (IsFleetRun G H old new fleet (W.contents before) false) (W.contents now) × (W.failures now ≡ W.failures before) × (V.contents told ≡ V.contents lines))
+    ⊎ ((e : Refusal) × EndsWith (IsSomeRun G H old new fleet (W.contents before)) (NotFleetRun G H old new fleet (W.contents before) (W.failures before))
+    (W.failures before) (W.contents now) (W.failures now) e × TellsLine V lines told e)

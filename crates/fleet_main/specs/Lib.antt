@@ -1,5 +1,7 @@
 pub mod Bringing
+pub mod Commands
 pub mod Doing
+pub mod Ending
 pub mod Host
 pub mod Laws
 pub mod Loans

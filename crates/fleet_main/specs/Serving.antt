@@ -1,6 +1,7 @@
 -- What `serve` does over the repository that stands in a folder, and why it doesn't.
-use Rattle.std.specs.Prelude.{◌≡◌, ◌⊎◌, ℕ, List, Option, string_bytes}
+use Rattle.std.specs.Prelude.{◌≡◌, ◌⊎◌, ℕ, List, Option, Result, IfErr, OnOk, string_bytes}
 use Rattle.std.specs.Io.KnownBytes.{Appends}
+use Rattle.byte_streams.specs.declared.output.Output.{Ghosts as OutputGhosts}
 use Rattle.fleet_disk.specs.declared.disk.Disk.{Ghosts}
 use Rattle.node_base.specs.declared.refusal.Refusal.{Refusal}
 use Rattle.node_base.specs.declared.refusal.Refusal.TheVariants as refusal
@@ -9,7 +10,8 @@ use Rattle.sockets.specs.Lines.{listening}
 use Rattle.sockets.specs.declared.troubles.Trouble.{Trouble}
 use Rattle.sockets.specs.declared.troubles.Trouble.TheVariants as trouble
 use Rattle.svn_ends.specs.Served.{IsOfStore}
-use Rattle.fleet_main.specs.Doing.{IsKept, IsOpenedOn}
+use Rattle.fleet_main.specs.Doing.{EndsWith, HandsOn, IsKept, IsOpenedOn}
+use Rattle.fleet_main.specs.Ending.{TellsLine}
 use Rattle.fleet_disk.specs.Lending.{There, IsGiven, OthersStay}
 use Rattle.fleet_main.specs.Opening.{NotOpenedIn}
 use Rattle.command_words.specs.declared.command_line.Service.{Service}
@@ -51,3 +53,38 @@ refusal_of trouble.Failed = refusal.Failed
 refusal_of trouble.LogFull = refusal.LogFull
 refusal_of trouble.PeerFailed = refusal.PeerFailed
 refusal_of trouble.OutOfMemory = refusal.OutOfMemory
+
+-- the repository of a folder is served, and where was told
+abbrev pub ServesIn : {F D O : Type 0} → Ghosts D → FolderGhosts F D → OutputGhosts O → F → F → O → O → List ℕ → ℕ → Result (Unit {0}) Refusal → Type 0
+ServesIn G H W old new before now folder port result = OnOk result (OfServed G H old new folder (Appends (W.contents before) (W.contents now) (listening port)))
+
+-- why it isn't
+abbrev pub RefusesServing : {F D O : Type 0} → Ghosts D → FolderGhosts F D → OutputGhosts O → F → F → O → O → List ℕ → Result (Unit {0}) Refusal → Type 0
+RefusesServing G H W old new before now folder result = IfErr result (NotServedIn G H old new folder (W.contents before) (W.contents now))
+
+-- the service is done
+abbrev pub DoesService : {F D O : Type 0} → Ghosts D → FolderGhosts F D → OutputGhosts O → F → F → O → O → Service → Result (Unit {0}) Refusal → Type 0
+DoesService G H W old new before now service result = OnOk result (IsServedFrom G H old new service (W.contents before) (W.contents now))
+
+-- why it isn't, and what is left then
+abbrev pub RefusesService : {F D O : Type 0} → Ghosts D → FolderGhosts F D → OutputGhosts O → F → F → O → O → Service → Result (Unit {0}) Refusal → Type 0
+RefusesService G H W old new before now service result = IfErr result (NotServedFrom G H old new service (W.contents before) (W.contents now) (W.failures now))
+
+-- it is done, and what it wrote is handed on
+abbrev pub DeliversService : {F D O : Type 0} → Ghosts D → FolderGhosts F D → OutputGhosts O → F → F → O → O → Service → Result (Unit {0}) Refusal → Type 0
+DeliversService G H W old new before now service result = OnOk result (HandsOn (IsServedFrom G H old new service (W.contents before)) (W.contents now))
+
+-- it ends with a refusal, and what it wrote is handed on as far as the output takes it
+abbrev pub EndsService : {F D O : Type 0} → Ghosts D → FolderGhosts F D → OutputGhosts O → F → F → O → O → Service → Result (Unit {0}) Refusal → Type 0
+EndsService G H W old new before now service result =
+    IfErr result (EndsWith (IsServedFrom G H old new service (W.contents before)) (NotServedFrom G H old new service (W.contents before)) (W.failures before) (W.contents now) (W.failures now))
+
+-- its status is 0 where it is done and that is handed on
+abbrev pub SucceedsAtService : {F D O : Type 0} → Ghosts D → FolderGhosts F D → OutputGhosts O → F → F → O → O → Service → ℕ → Type 0
+SucceedsAtService G H W old new before now service status = status ≡ 0 → HandsOn (IsServedFrom G H old new service (W.contents before)) (W.contents now)
+
+-- and 1 where it is refused, with the refusal's line
+abbrev pub FailsAtService : {F D O E : Type 0} → Ghosts D → FolderGhosts F D → OutputGhosts O → OutputGhosts E → F → F → O → O → E → E → Service → ℕ → Type 0
+FailsAtService G H W V old new before now lines told service status =
+    status ≡ 1 → (e : Refusal) × EndsWith (IsServedFrom G H old new service (W.contents before)) (NotServedFrom G H old new service (W.contents before))
+    (W.failures before) (W.contents now) (W.failures now) e × TellsLine V lines told e

@@ -1,18 +1,12 @@
 //! Mirrors in folders that are brought up to their master at once.
 ghost use Rattle.std.specs.Prelude.{◌≡◌, ◌≢◌, ◌≤◌, ◌+◌, ◌⊎◌, ◌∷◌, ℕ, None, Ok, [], true, false, length, map};
-ghost use Rattle.std.specs.Prelude.{string_bytes, vec_capacity, vec_len, IfErr, IfOk, IfSome, OnOk};
-ghost use Rattle.std.specs.Io.KnownBytes.{Appends};
-ghost use Rattle.byte_streams.specs.Causes.{Rose};
-ghost use Rattle.fleet_disk.specs.Image.{Image};
+ghost use Rattle.std.specs.Prelude.{string_bytes, vec_capacity, vec_len, IfErr, IfOk, OnOk};
 ghost use Rattle.fleet_disk.specs.Lending.{MakesNothing};
-ghost use Rattle.node_base.specs.declared.refusal.Refusal.{Refusal as RefusalOf};
-ghost use Rattle.repo_store.specs.Journal.{Keeps};
-ghost use Rattle.repo_store.specs.Words.{disk_of, repository_of, HasFailed, IsKept as StoreIsKept};
-ghost use Rattle.node_base.specs.Refusals.{fault_line};
+ghost use Rattle.repo_store.specs.Words.{IsKept as StoreIsKept, IfSound, StopKeeps};
 ghost use Rattle.fleet_shares.specs.Stores.{store_at};
-ghost use Rattle.fleet_main.specs.Bringing.{AreBrought, AreToldOf, IsFleetRun, IsSomeRun, NotBrought, NotFleetRun, OfFleet};
-ghost use Rattle.fleet_main.specs.Doing.{EndsWith, HandsOn};
-ghost use Rattle.fleet_main.specs.Loans.{TakesBack};
+ghost use Rattle.fleet_main.specs.Bringing.{AreBrought, NotBrought};
+ghost use Rattle.fleet_main.specs.Bringing.{DeliversFleet, DoesFleet, EndsFleet, FailsAtFleet, GivesBack};
+ghost use Rattle.fleet_main.specs.Bringing.{RefusesFleet, RunsMirrors, SucceedsAtFleet};
 ghost use Rattle.command_words.specs.Twice.{first_twice};
 
 use crate::execute::refused;
@@ -37,8 +31,7 @@ const REFUSED: u8 = 1;
 
 // What a store keeps by its type.
 fn keeps<D: Disk>(store: &RepoStore<D>)
-    ensures stop { D.honest (disk_of store.now) → ¬ HasFailed store.now → (left : Image)
-        → D.may_leave (disk_of store.now) left → Keeps (repository_of store.now) left }
+    ensures stop { IfSound store.now (StopKeeps store.now) }
     ensures kept { StoreIsKept store.now }
 {
     let _repo = store.repo();
@@ -51,8 +44,7 @@ fn slot_closed<F: Folders>(
     stores: FleetStores<F::Place>,
     slot: usize,
 ) -> FleetStores<F::Place>
-    ensures back { IfSome (store_at stores slot) (λ s. TakesBack F.Place.Disk F.Folders folders.old folders.new
-        folder.now (disk_of s) × StoreIsKept s) }
+    ensures back { GivesBack F.Place.Disk F.Folders folders.old folders.new stores slot folder.now }
     ensures others { (other : ℕ) → other ≢ slot → store_at result other ≡ store_at stores other }
     ensures master { result.master ≡ stores.master }
     ensures nothing { MakesNothing F.lacks folders.old folders.new }
@@ -122,8 +114,8 @@ where
     F::Place: Send + 'static,
     requires few { length mirrors.now ≤ 4 }
     requires apart { first_twice (master.now ∷ map string_bytes mirrors.now) ≡ None }
-    ensures done { IfOk result (λ told. OfFleet F.Place.Disk F.Folders folders.old folders.new master.now
-        (map string_bytes mirrors.now) (AreToldOf F.Place.Disk told.items)) }
+    ensures done { RunsMirrors F.Place.Disk F.Folders folders.old folders.new master.now
+        (map string_bytes mirrors.now) result }
     ensures refused { IfErr result (NotBrought F.Place.Disk F.Folders folders.old folders.new master.now
         (map string_bytes mirrors.now)) }
     ensures nothing { MakesNothing F.lacks folders.old folders.new }
@@ -166,10 +158,10 @@ fn fleet_told<R: Threads + Wait + Clone + Send + Drop + 'static, F: Folders, O: 
 ) -> Result<bool, Refusal>
 where
     F::Place: Send + 'static,
-    ensures done { IfOk result (λ done. IsFleetRun F.Place.Disk F.Folders folders.old folders.new fleet.now
-        (O.contents output.old) done (O.contents output.new)) }
-    ensures refused { IfErr result (NotFleetRun F.Place.Disk F.Folders folders.old folders.new fleet.now
-        (O.contents output.old) (O.failures output.old) (O.contents output.new) (O.failures output.new)) }
+    ensures done { DoesFleet F.Place.Disk F.Folders O.Output folders.old folders.new output.old output.new fleet.now
+        result }
+    ensures refused { RefusesFleet F.Place.Disk F.Folders O.Output folders.old folders.new output.old output.new
+        fleet.now result }
     ensures unfailed { OnOk result (O.failures output.new ≡ O.failures output.old) }
     ensures nothing { MakesNothing F.lacks folders.old folders.new }
 {
@@ -198,12 +190,10 @@ fn fleet_flushed<R: Threads + Wait + Clone + Send + Drop + 'static, F: Folders, 
 ) -> (O, Result<bool, Refusal>)
 where
     F::Place: Send + 'static,
-    ensures done { IfOk result.1 (λ done. HandsOn (IsFleetRun F.Place.Disk F.Folders folders.old folders.new fleet.now
-        (O.contents output) done) (O.contents result.0)) }
-    ensures refused { IfErr result.1 (EndsWith (IsSomeRun F.Place.Disk F.Folders folders.old folders.new fleet.now
-        (O.contents output)) (NotFleetRun F.Place.Disk F.Folders folders.old folders.new fleet.now
-        (O.contents output) (O.failures output)) (O.failures output) (O.contents result.0)
-        (O.failures result.0)) }
+    ensures done { DeliversFleet F.Place.Disk F.Folders O.Output folders.old folders.new output result.0 fleet.now
+        result.1 }
+    ensures refused { EndsFleet F.Place.Disk F.Folders O.Output folders.old folders.new output result.0 fleet.now
+        result.1 }
     ensures handed { OnOk result.1 (O.is_handed_on result.0) }
     ensures unfailed { OnOk result.1 (O.failures result.0 ≡ O.failures output) }
     ensures nothing { MakesNothing F.lacks folders.old folders.new }
@@ -243,20 +233,13 @@ where
     F::Place: Send + 'static,
     ensures status { (result.0 ≡ 0) ⊎ (result.0 ≡ 1) }
     ensures nothing { MakesNothing F.lacks folders.old folders.new }
-    ensures done { result.0 ≡ 0 → HandsOn (IsFleetRun F.Place.Disk F.Folders folders.old folders.new fleet.now
-        (O.contents output) true) (O.contents result.1) }
+    ensures done { SucceedsAtFleet F.Place.Disk F.Folders O.Output folders.old folders.new output result.1 fleet.now
+        result.0 }
     ensures handed { result.0 ≡ 0 → O.is_handed_on result.1 }
     ensures unfailed { result.0 ≡ 0 → O.failures result.1 ≡ O.failures output }
     ensures silent { result.0 ≡ 0 → E.contents errors.new ≡ E.contents errors.old }
-    ensures refused { result.0 ≡ 1 → (HandsOn (IsFleetRun F.Place.Disk F.Folders folders.old folders.new fleet.now
-        (O.contents output) false) (O.contents result.1) × (O.failures result.1 ≡ O.failures output)
-        × (E.contents errors.new ≡ E.contents errors.old))
-        ⊎ ((e : RefusalOf) × EndsWith (IsSomeRun F.Place.Disk F.Folders folders.old folders.new fleet.now
-        (O.contents output)) (NotFleetRun F.Place.Disk F.Folders folders.old folders.new fleet.now
-        (O.contents output) (O.failures output)) (O.failures output) (O.contents result.1)
-        (O.failures result.1) e
-        × (Rose (E.failures errors.old) (E.failures errors.new)
-        ⊎ Appends (E.contents errors.old) (E.contents errors.new) (fault_line e))) }
+    ensures refused { FailsAtFleet F.Place.Disk F.Folders O.Output E.Output folders.old folders.new output result.1
+        errors.old errors.new fleet.now result.0 }
 {
     let (output, told) = fleet_flushed(rt, alloc, folders, fleet, output);
     match told {

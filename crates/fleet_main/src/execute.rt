@@ -1,22 +1,20 @@
 //! One command, from its words to its status.
-ghost use Rattle.std.specs.Prelude.{◌≡◌, ◌⊎◌, ◌<◌, [], length, IfErr, IfOk, OnOk, string_bytes};
-ghost use Rattle.node_base.specs.declared.refusal.Refusal.{Refusal as RefusalOf};
+ghost use Rattle.std.specs.Prelude.{◌≡◌, ◌⊎◌, ◌<◌, length, IfErr, IfOk, OnOk, string_bytes};
 ghost use Rattle.repo_store.specs.Words.{disk_of, HasFailed};
-ghost use Rattle.std.specs.Io.KnownBytes.{Appends};
-ghost use Rattle.byte_streams.specs.Causes.{Fails, Rose, counts};
+ghost use Rattle.byte_streams.specs.Causes.{counts};
 ghost use Rattle.fleet_engines.specs.Runs.{BothCounted, Counted};
-ghost use Rattle.node_base.specs.Refusals.{fault_line};
-ghost use Rattle.mirror_engines.specs.declared.work.Work.TheVariants as work_is;
-ghost use Rattle.fleet_main.specs.Doing.{EndsWith, HandsOn, IsBegun, IsCommittedTo, IsDone, IsDumped, IsLoadedFrom};
-ghost use Rattle.fleet_main.specs.Doing.{IsNotDone, IsToldOf, IsBrought, NoSourceOr, NotCommittedTo, NotDumped};
-ghost use Rattle.fleet_main.specs.Doing.{NotKept, NotLoadedFrom, NotToldOf, NotBrought, NotBroughtOn, OfBoth};
-ghost use Rattle.fleet_main.specs.Doing.{OfStanding, OfUpgrade, OverSource, UnopenedBoth, UnopenedOr};
-ghost use Rattle.fleet_main.specs.Doing.{BroughtOn, IsHeadOf, NoHeadOf, UnopenedOrUpgrade};
+ghost use Rattle.fleet_main.specs.Commands.{DeliversCommand, DoesCommand, Dumps, EndsCommand, FailsAtCommand};
+ghost use Rattle.fleet_main.specs.Commands.{Initializes, Loads, MakesDir, PrintsHead, RefusesCommand, RefusesDir};
+ghost use Rattle.fleet_main.specs.Commands.{RefusesDump, RefusesHead, RefusesInfo, RefusesInitialize, RefusesLoad};
+ghost use Rattle.fleet_main.specs.Commands.{RefusesSource, RefusesStores, RefusesUpgrade, RefusesWork};
+ghost use Rattle.fleet_main.specs.Commands.{SucceedsAtCommand, TellsMirror, UpgradesLog, WorksWithSource, WorksOver};
+ghost use Rattle.fleet_main.specs.Doing.{IsBegun};
+ghost use Rattle.fleet_main.specs.Doing.{BroughtOn};
+ghost use Rattle.fleet_main.specs.Ending.{IsStreamFailure, StreamsWork, TellsLine};
+ghost use Rattle.svn_ends.specs.Runs.{IsOutputFailure};
 ghost use Rattle.fleet_disk.specs.Lending.{MakesIn, MakesNothing};
-ghost use Rattle.fleet_main.specs.Loans.{AreBack};
 ghost use Rattle.fleet_main.specs.Making.{MakesFor};
 ghost use Rattle.fleet_main.specs.Opening.{NotBegunIn};
-ghost use Rattle.store_engines.specs.Upgrades.{IsUpgraded, NotUpgraded};
 
 use crate::folders::{closed, created, opened, opened_to_upgrade};
 use crate::lending::Folders;
@@ -67,13 +65,10 @@ fn load<F: Folders, I: Input, O: Output + Drop>(
     input: &mut I,
     output: &mut O,
 ) -> Result<(), Refusal>
-    ensures done { OnOk result (OfStanding F.Place.Disk F.Folders folders.old folders.new folder.now
-        (IsLoadedFrom deltas (F.honest folders.old) (I.remaining input.old) (O.contents output.old)
-        (O.contents output.new))) }
-    ensures refused { IfErr result (λ e. UnopenedOr F.Place.Disk F.Folders folders.old folders.new folder.now
-        (O.contents output.old) (O.contents output.new) e
-        (NotLoadedFrom deltas (F.honest folders.old) (I.remaining input.old) (O.contents output.old)
-        (O.contents output.new) (Rose (O.failures output.old) (O.failures output.new)) e)) }
+    ensures done { Loads F.Place.Disk F.Folders I.Input O.Output folders.old folders.new input.old output.old output.new
+        deltas folder.now result }
+    ensures refused { RefusesLoad F.Place.Disk F.Folders I.Input O.Output folders.old folders.new input.old output.old
+        output.new deltas folder.now result }
     ensures peer { BothCounted result (counts I.failures I.reads input.old input.new) (O.failures output.old) (O.failures output.new) }
     ensures nothing { MakesNothing F.lacks folders.old folders.new }
 {
@@ -95,12 +90,10 @@ fn dump<F: Folders, O: Output + Drop>(
     range: Option<RevRange>,
     output: &mut O,
 ) -> Result<(), Refusal>
-    ensures done { OnOk result (OfStanding F.Place.Disk F.Folders folders.old folders.new folder.now
-        (IsDumped (F.honest folders.old) range (O.contents output.old) (O.contents output.new))) }
-    ensures refused { IfErr result (λ e. UnopenedOr F.Place.Disk F.Folders folders.old folders.new folder.now
-        (O.contents output.old) (O.contents output.new) e
-        (NotDumped (F.honest folders.old) range (O.contents output.old) (O.contents output.new)
-        (Rose (O.failures output.old) (O.failures output.new)) e)) }
+    ensures done { Dumps F.Place.Disk F.Folders O.Output folders.old folders.new output.old output.new folder.now range
+        result }
+    ensures refused { RefusesDump F.Place.Disk F.Folders O.Output folders.old folders.new output.old output.new
+        folder.now range result }
     ensures peer { Counted result (O.failures output.old) (O.failures output.new) }
     ensures nothing { MakesNothing F.lacks folders.old folders.new }
 {
@@ -120,11 +113,10 @@ fn head<F: Folders, O: Output + Drop>(
     folder: &str,
     output: &mut O,
 ) -> Result<(), Refusal>
-    ensures done { OnOk result (OfStanding F.Place.Disk F.Folders folders.old folders.new folder.now
-        (IsHeadOf (F.honest folders.old) (O.contents output.old) (O.contents output.new))) }
-    ensures refused { IfErr result (λ e. UnopenedOr F.Place.Disk F.Folders folders.old folders.new folder.now
-        (O.contents output.old) (O.contents output.new) e
-        (NoHeadOf (F.honest folders.old) (Rose (O.failures output.old) (O.failures output.new)) e)) }
+    ensures done { PrintsHead F.Place.Disk F.Folders O.Output folders.old folders.new output.old output.new folder.now
+        result }
+    ensures refused { RefusesHead F.Place.Disk F.Folders O.Output folders.old folders.new output.old output.new
+        folder.now result }
     ensures peer { Counted result (O.failures output.old) (O.failures output.new) }
     ensures nothing { MakesNothing F.lacks folders.old folders.new }
 {
@@ -147,13 +139,10 @@ fn make_dir<F: Folders, O: Output + Drop>(
     moment: Moment,
     output: &mut O,
 ) -> Result<(), Refusal>
-    ensures done { OnOk result (OfStanding F.Place.Disk F.Folders folders.old folders.new folder.now
-        (IsCommittedTo (F.honest folders.old) path.now message.now moment (O.contents output.old)
-        (O.contents output.new))) }
-    ensures refused { IfErr result (λ e. UnopenedOr F.Place.Disk F.Folders folders.old folders.new folder.now
-        (O.contents output.old) (O.contents output.new) e
-        (NotCommittedTo (F.honest folders.old) path.now message.now moment (O.contents output.old)
-        (O.contents output.new) (Rose (O.failures output.old) (O.failures output.new)) e)) }
+    ensures done { MakesDir F.Place.Disk F.Folders O.Output folders.old folders.new output.old output.new folder.now
+        path.now message.now moment result }
+    ensures refused { RefusesDir F.Place.Disk F.Folders O.Output folders.old folders.new output.old output.new
+        folder.now path.now message.now moment result }
     ensures peer { Counted result (O.failures output.old) (O.failures output.new) }
     ensures nothing { MakesNothing F.lacks folders.old folders.new }
 {
@@ -174,12 +163,10 @@ fn upgrade<F: Folders, O: Output + Drop>(
     folder: &str,
     output: &mut O,
 ) -> Result<(), Refusal>
-    ensures done { OnOk result (OfUpgrade F.Place.Disk F.Folders folders.old folders.new folder.now
-        (IsUpgraded (O.contents output.old) (O.contents output.new))) }
-    ensures refused { IfErr result (λ e. UnopenedOrUpgrade F.Place.Disk F.Folders folders.old folders.new folder.now
-        (O.contents output.old) (O.contents output.new) e
-        (NotUpgraded (O.contents output.old) (O.contents output.new)
-        (Rose (O.failures output.old) (O.failures output.new)) e)) }
+    ensures done { UpgradesLog F.Place.Disk F.Folders O.Output folders.old folders.new output.old output.new folder.now
+        result }
+    ensures refused { RefusesUpgrade F.Place.Disk F.Folders O.Output folders.old folders.new output.old output.new
+        folder.now result }
     ensures peer { Counted result (O.failures output.old) (O.failures output.new) }
     ensures nothing_else { MakesIn F.lacks folder.now folders.old folders.new }
 {
@@ -199,12 +186,10 @@ fn info<F: Folders, O: Output + Drop>(
     mirror: &str,
     output: &mut O,
 ) -> Result<(), Refusal>
-    ensures done { OnOk result (OfStanding F.Place.Disk F.Folders folders.old folders.new mirror.now
-        (IsToldOf (F.honest folders.old) (O.contents output.old) (O.contents output.new))) }
-    ensures refused { IfErr result (λ e. UnopenedOr F.Place.Disk F.Folders folders.old folders.new mirror.now
-        (O.contents output.old) (O.contents output.new) e
-        (NotToldOf (F.honest folders.old) (O.contents output.old) (O.contents output.new)
-        (Rose (O.failures output.old) (O.failures output.new)) e)) }
+    ensures done { TellsMirror F.Place.Disk F.Folders O.Output folders.old folders.new output.old output.new mirror.now
+        result }
+    ensures refused { RefusesInfo F.Place.Disk F.Folders O.Output folders.old folders.new output.old output.new
+        mirror.now result }
     ensures peer { Counted result (O.failures output.old) (O.failures output.new) }
     ensures nothing { MakesNothing F.lacks folders.old folders.new }
 {
@@ -227,14 +212,13 @@ fn mirrored<F: Folders, O: Output + Drop>(
     work: Work,
     output: O,
 ) -> (O, Result<(), Refusal>)
-    ensures done { OnOk result.1 (OfBoth F.Place.Disk F.Folders folders.old folders.new mirror.now source.now
-        (IsBrought work (O.contents output) (O.contents result.0))) }
-    ensures refused { IfErr result.1 (λ e. UnopenedBoth F.Place.Disk F.Folders folders.old folders.new mirror.now
-        source.now (O.contents output) (O.contents result.0) e
-        (NotBrought work (O.contents output) (O.contents result.0) (Rose (O.failures output) (O.failures result.0)) e)) }
+    ensures done { WorksOver F.Place.Disk F.Folders O.Output folders.old folders.new output result.0 mirror.now
+        source.now work result.1 }
+    ensures refused { RefusesWork F.Place.Disk F.Folders O.Output folders.old folders.new output result.0 mirror.now
+        source.now work result.1 }
     ensures unfailed { OnOk result.1 (O.failures result.0 ≡ O.failures output) }
     ensures nothing { MakesNothing F.lacks folders.old folders.new }
-    ensures peer { IfErr result.1 (λ e. e ≡ Refusal.PeerFailed → Rose (O.failures output) (O.failures result.0)) }
+    ensures peer { IsOutputFailure O.Output output result.0 result.1 }
 {
     match opened(alloc, folders, mirror) {
         Ok(store) => {
@@ -255,15 +239,14 @@ fn mirrored_from<F: Folders, O: Output + Drop>(
     work: Work,
     output: O,
 ) -> (RepoStore<F::Place>, O, Result<(), Refusal>)
-    ensures done { OnOk result.2 (OverSource F.Place.Disk F.Folders folders.old folders.new source.now mirror result.0
-        (IsBrought work (O.contents output) (O.contents result.1))) }
-    ensures refused { IfErr result.2 (λ e. NoSourceOr F.Place.Disk F.Folders folders.old folders.new source.now mirror
-        result.0 (O.contents output) (O.contents result.1) e
-        (NotBrought work (O.contents output) (O.contents result.1) (Rose (O.failures output) (O.failures result.1)) e)) }
+    ensures done { WorksWithSource F.Place.Disk F.Folders O.Output folders.old folders.new mirror result.0 output result.1
+        source.now work result.2 }
+    ensures refused { RefusesSource F.Place.Disk F.Folders O.Output folders.old folders.new mirror result.0 output
+        result.1 source.now work result.2 }
     ensures rules { ¬ HasFailed mirror → F.Place.honest (disk_of mirror) → F.Place.honest (disk_of result.0) }
     ensures unfailed { OnOk result.2 (O.failures result.1 ≡ O.failures output) }
     ensures nothing { MakesNothing F.lacks folders.old folders.new }
-    ensures peer { IfErr result.2 (λ e. e ≡ Refusal.PeerFailed → Rose (O.failures output) (O.failures result.1)) }
+    ensures peer { IsOutputFailure O.Output output result.1 result.2 }
 {
     match opened(alloc, folders, source) {
         Ok(store) => {
@@ -284,11 +267,10 @@ fn worked<D: Disk + Drop, O: Output + Drop>(
 ) -> (RepoStore<D>, O, Result<(), Refusal>)
     ensures done { OnOk result.2 (BroughtOn work (O.contents output) (O.contents result.1) source.now mirror
         result.0) }
-    ensures refused { IfErr result.2 (λ e. NotBroughtOn work (O.contents output) (O.contents result.1)
-        (Rose (O.failures output) (O.failures result.1)) e source.now mirror result.0) }
+    ensures refused { RefusesStores O.Output source.now mirror result.0 output result.1 work result.2 }
     ensures rules { ¬ HasFailed mirror → D.honest (disk_of mirror) → D.honest (disk_of result.0) }
     ensures unfailed { OnOk result.2 (O.failures result.1 ≡ O.failures output) }
-    ensures peer { IfErr result.2 (λ e. e ≡ Refusal.PeerFailed → Rose (O.failures output) (O.failures result.1)) }
+    ensures peer { IsOutputFailure O.Output output result.1 result.2 }
 {
     let master = LentMaster::new(source);
     run_work(alloc, mirror, master, work, output)
@@ -301,17 +283,13 @@ fn initialize<F: Folders, O: Output + Drop>(
     source: &str,
     output: O,
 ) -> (O, Result<(), Refusal>)
-    ensures done { OnOk result.1 (OfBoth F.Place.Disk F.Folders folders.old folders.new mirror.now source.now
-        (IsBrought (work_is.Initialize source.now) (O.contents output) (O.contents result.0))) }
-    ensures refused { IfErr result.1 (λ e. (NotKept source.now (O.contents output) (O.contents result.0) e
-        × AreBack F.Place.Disk F.Folders folders.old folders.new [])
-        ⊎ UnopenedBoth F.Place.Disk F.Folders folders.old folders.new mirror.now source.now
-        (O.contents output) (O.contents result.0) e
-        (NotBrought (work_is.Initialize source.now) (O.contents output) (O.contents result.0)
-        (Rose (O.failures output) (O.failures result.0)) e)) }
+    ensures done { Initializes F.Place.Disk F.Folders O.Output folders.old folders.new output result.0 mirror.now
+        source.now result.1 }
+    ensures refused { RefusesInitialize F.Place.Disk F.Folders O.Output folders.old folders.new output result.0
+        mirror.now source.now result.1 }
     ensures unfailed { OnOk result.1 (O.failures result.0 ≡ O.failures output) }
     ensures nothing { MakesNothing F.lacks folders.old folders.new }
-    ensures peer { IfErr result.1 (λ e. e ≡ Refusal.PeerFailed → Rose (O.failures output) (O.failures result.0)) }
+    ensures peer { IsOutputFailure O.Output output result.0 result.1 }
 {
     match url_of(alloc, source) {
         Ok(url) => mirrored(
@@ -352,15 +330,13 @@ fn run_one<F: Folders, I: Input, O: Output + Drop>(
     input: &mut I,
     output: O,
 ) -> (O, Result<(), Refusal>)
-    ensures done { OnOk result.1 (IsDone F.Place.Disk F.Folders folders.old folders.new command
-        (I.remaining input.old) (O.contents output) (O.contents result.0)) }
-    ensures refused { IfErr result.1 (IsNotDone F.Place.Disk F.Folders folders.old folders.new command
-        (I.remaining input.old) (O.contents output) (O.failures output) (O.contents result.0)
-        (O.failures result.0)) }
-    ensures unfailed { OnOk result.1 ((I.failures input.new ≡ I.failures input.old) × (O.failures result.0 ≡ O.failures output)) }
+    ensures done { DoesCommand F.Place.Disk F.Folders I.Input O.Output folders.old folders.new input.old output result.0
+        command result.1 }
+    ensures refused { RefusesCommand F.Place.Disk F.Folders I.Input O.Output folders.old folders.new input.old output
+        result.0 command result.1 }
+    ensures unfailed { OnOk result.1 (StreamsWork I.Input O.Output input.old input.new output result.0) }
     ensures made { MakesFor F.lacks command folders.old folders.new }
-    ensures peer { IfErr result.1 (λ e. e ≡ Refusal.PeerFailed → Fails (counts I.failures I.reads input.old input.new)
-        ⊎ Rose (O.failures output) (O.failures result.0)) }
+    ensures peer { IsStreamFailure I.Input O.Output input.old input.new output result.0 result.1 }
 {
     let mut output = output;
     match command {
@@ -457,18 +433,14 @@ fn run_flushed<F: Folders, I: Input, O: Output + Drop>(
     input: &mut I,
     output: O,
 ) -> (O, Result<(), Refusal>)
-    ensures done { OnOk result.1 (HandsOn (IsDone F.Place.Disk F.Folders folders.old folders.new command
-        (I.remaining input.old) (O.contents output)) (O.contents result.0)) }
-    ensures refused { IfErr result.1 (EndsWith (IsDone F.Place.Disk F.Folders folders.old folders.new command
-        (I.remaining input.old) (O.contents output))
-        (IsNotDone F.Place.Disk F.Folders folders.old folders.new command
-        (I.remaining input.old) (O.contents output) (O.failures output)) (O.failures output) (O.contents result.0)
-        (O.failures result.0)) }
+    ensures done { DeliversCommand F.Place.Disk F.Folders I.Input O.Output folders.old folders.new input.old output
+        result.0 command result.1 }
+    ensures refused { EndsCommand F.Place.Disk F.Folders I.Input O.Output folders.old folders.new input.old output
+        result.0 command result.1 }
     ensures handed { OnOk result.1 (O.is_handed_on result.0) }
-    ensures unfailed { OnOk result.1 ((I.failures input.new ≡ I.failures input.old) × (O.failures result.0 ≡ O.failures output)) }
+    ensures unfailed { OnOk result.1 (StreamsWork I.Input O.Output input.old input.new output result.0) }
     ensures made { MakesFor F.lacks command folders.old folders.new }
-    ensures peer { IfErr result.1 (λ e. e ≡ Refusal.PeerFailed → Fails (counts I.failures I.reads input.old input.new)
-        ⊎ Rose (O.failures output) (O.failures result.0)) }
+    ensures peer { IsStreamFailure I.Input O.Output input.old input.new output result.0 result.1 }
 {
     let (output, done) = run_one(alloc, folders, command, input, output);
     let mut output = output;
@@ -496,21 +468,13 @@ pub fn run<F: Folders, I: Input, O: Output + Drop, E: Output>(
 ) -> (u8, O)
     ensures status { (result.0 ≡ 0) ⊎ (result.0 ≡ 1) }
     ensures made { MakesFor F.lacks command folders.old folders.new }
-    ensures done { result.0 ≡ 0 → HandsOn (IsDone F.Place.Disk F.Folders folders.old folders.new command
-        (I.remaining input.old) (O.contents output)) (O.contents result.1) }
+    ensures done { SucceedsAtCommand F.Place.Disk F.Folders I.Input O.Output folders.old folders.new input.old output
+        result.1 command result.0 }
     ensures handed { result.0 ≡ 0 → O.is_handed_on result.1 }
-    ensures unfailed { result.0 ≡ 0 → (I.failures input.new ≡ I.failures input.old) × (O.failures result.1 ≡ O.failures output) }
+    ensures unfailed { result.0 ≡ 0 → StreamsWork I.Input O.Output input.old input.new output result.1 }
     ensures silent { result.0 ≡ 0 → E.contents errors.new ≡ E.contents errors.old }
-    ensures refused { result.0 ≡ 1 → (e : RefusalOf)
-        × EndsWith (IsDone F.Place.Disk F.Folders folders.old folders.new command
-        (I.remaining input.old) (O.contents output))
-        (IsNotDone F.Place.Disk F.Folders folders.old folders.new command
-        (I.remaining input.old) (O.contents output) (O.failures output)) (O.failures output) (O.contents result.1)
-        (O.failures result.1) e
-        × (e ≡ Refusal.PeerFailed → Fails (counts I.failures I.reads input.old input.new)
-        ⊎ Rose (O.failures output) (O.failures result.1))
-        × (Rose (E.failures errors.old) (E.failures errors.new)
-        ⊎ Appends (E.contents errors.old) (E.contents errors.new) (fault_line e)) }
+    ensures refused { FailsAtCommand F.Place.Disk F.Folders I.Input O.Output E.Output folders.old folders.new input.old
+        input.new output result.1 errors.old errors.new command result.0 }
 {
     let (output, done) = run_flushed(alloc, folders, command, input, output);
     match done {
@@ -523,8 +487,7 @@ pub fn run<F: Folders, I: Input, O: Output + Drop, E: Output>(
 /// tells.
 pub(crate) fn refused<E: Output>(refusal: &Refusal, errors: &mut E) -> u8
     ensures status { result ≡ 1 }
-    ensures line { Rose (E.failures errors.old) (E.failures errors.new)
-        ⊎ Appends (E.contents errors.old) (E.contents errors.new) (fault_line refusal.now) }
+    ensures line { TellsLine E.Output errors.old errors.new refusal.now }
 {
     match write_line(errors, refusal) {
         Ok(()) => REFUSED,

@@ -1,9 +1,7 @@
 //! Folders, each the place of a repository.
 ghost use Rattle.std.specs.Prelude.{◌≡◌, IfOk, IfErr};
-ghost use Rattle.fleet_disk.specs.Image.{Image};
 ghost use Rattle.fleet_disk.specs.Lending.{MakesIn, MakesNothing};
-ghost use Rattle.repo_store.specs.Journal.{Keeps};
-ghost use Rattle.repo_store.specs.Words.{disk_of, repository_of, HasFailed, IsKept};
+ghost use Rattle.repo_store.specs.Words.{disk_of, IsKept, IfSound, StopKeeps};
 ghost use Rattle.fleet_main.specs.Doing.{IsBegunIn, IsOpenedIn};
 ghost use Rattle.fleet_main.specs.Host.{calls_of};
 ghost use Rattle.fleet_main.specs.Loans.{TakesBack};
@@ -79,8 +77,7 @@ fn folder_refusal(fault: FolderFault) -> Refusal
 /// the entry in doubt.
 pub fn closed<F: Folders>(folders: &mut F, folder: &str, store: RepoStore<F::Place>)
     ensures back { TakesBack F.Place.Disk F.Folders folders.old folders.new folder.now (disk_of store) }
-    ensures kept { F.Place.honest (disk_of store) → ¬ HasFailed store → (left : Image)
-        → F.Place.may_leave (disk_of store) left → Keeps (repository_of store) left }
+    ensures kept { IfSound store (StopKeeps store) }
     ensures either { IsKept store }
     ensures nothing { MakesNothing F.lacks folders.old folders.new }
 {

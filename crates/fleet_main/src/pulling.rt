@@ -2,13 +2,11 @@
 ghost use Rattle.std.specs.Prelude.{◌≡◌, ◌⊎◌, IfErr, IfOk, OnOk};
 ghost use Rattle.fleet_disk.specs.Lending.{MakesNothing};
 ghost use Rattle.repo_store.specs.Words.{disk_of, HasFailed};
-ghost use Rattle.std.specs.Io.KnownBytes.{Appends};
-ghost use Rattle.byte_streams.specs.Causes.{Rose};
-ghost use Rattle.node_base.specs.Refusals.{fault_line};
-ghost use Rattle.node_base.specs.declared.refusal.Refusal.{Refusal as RefusalOf};
 ghost use Rattle.mirror_engines.specs.Runs.{IsWorked};
-ghost use Rattle.fleet_main.specs.Doing.{EndsWith, HandsOn, IsWorkedOver, OfStanding, UnopenedOr, WorkedOn, untold};
-ghost use Rattle.fleet_main.specs.Pulling.{IsPulled, NotKeptFor, NotPulled, NotPulledOn, NotPulledOver, work_as};
+ghost use Rattle.fleet_main.specs.Doing.{WorkedOn, untold};
+ghost use Rattle.fleet_main.specs.Pulling.{NotKeptFor, work_as};
+ghost use Rattle.fleet_main.specs.Pulling.{DeliversPull, DoesPull, EndsPull, FailsAtPull, RefusesPull, RefusesPullOn};
+ghost use Rattle.fleet_main.specs.Pulling.{RefusesWorkIn, SucceedsAtPull, WorksIn};
 
 use crate::execute::{refused, url_of};
 use crate::folders::{closed, opened};
@@ -56,8 +54,7 @@ fn pull_opened<R: Net<Stream = TcpStream>, D: Disk + Drop, O: Output + Drop>(
 ) -> (RepoStore<D>, O, Result<(), Refusal>)
     ensures done { OnOk result.2 (WorkedOn untold (IsWorked work) (O.contents output) (O.contents result.1) mirror
         result.0) }
-    ensures refused { IfErr result.2 (λ e. NotPulledOn (IsWorked work) (O.contents output)
-        (O.contents result.1) (Rose (O.failures output) (O.failures result.1)) e mirror result.0) }
+    ensures refused { RefusesPullOn O.Output mirror result.0 output result.1 work result.2 }
     ensures rules { ¬ HasFailed mirror → D.honest (disk_of mirror) → D.honest (disk_of result.0) }
     ensures unfailed { OnOk result.2 (O.failures result.1 ≡ O.failures output) }
 {
@@ -74,12 +71,10 @@ fn pull_folder<R: Net<Stream = TcpStream>, F: Folders, O: Output + Drop>(
     work: Work,
     output: O,
 ) -> (O, Result<(), Refusal>)
-    ensures done { OnOk result.1 (OfStanding F.Place.Disk F.Folders folders.old folders.new mirror.now
-        (IsWorkedOver untold (IsWorked work) (O.contents output) (O.contents result.0))) }
-    ensures refused { IfErr result.1 (λ e. UnopenedOr F.Place.Disk F.Folders folders.old folders.new mirror.now
-        (O.contents output) (O.contents result.0) e
-        (NotPulledOver (F.honest folders.old) (IsWorked work) (O.contents output) (O.contents result.0)
-        (Rose (O.failures output) (O.failures result.0)) e)) }
+    ensures done { WorksIn F.Place.Disk F.Folders O.Output folders.old folders.new output result.0 mirror.now work
+        result.1 }
+    ensures refused { RefusesWorkIn F.Place.Disk F.Folders O.Output folders.old folders.new output result.0 mirror.now
+        work result.1 }
     ensures unfailed { OnOk result.1 (O.failures result.0 ≡ O.failures output) }
     ensures nothing { MakesNothing F.lacks folders.old folders.new }
 {
@@ -101,10 +96,9 @@ fn pull_asked<R: Net<Stream = TcpStream>, F: Folders, O: Output + Drop>(
     pull: Pull,
     output: O,
 ) -> (O, Result<(), Refusal>)
-    ensures done { OnOk result.1 (IsPulled F.Place.Disk F.Folders folders.old folders.new pull (O.contents output)
-        (O.contents result.0)) }
-    ensures refused { IfErr result.1 (NotPulled F.Place.Disk F.Folders folders.old folders.new pull
-        (O.contents output) (O.failures output) (O.contents result.0) (O.failures result.0)) }
+    ensures done { DoesPull F.Place.Disk F.Folders O.Output folders.old folders.new output result.0 pull result.1 }
+    ensures refused { RefusesPull F.Place.Disk F.Folders O.Output folders.old folders.new output result.0 pull
+        result.1 }
     ensures unfailed { OnOk result.1 (O.failures result.0 ≡ O.failures output) }
     ensures nothing { MakesNothing F.lacks folders.old folders.new }
 {
@@ -141,12 +135,8 @@ fn pull_flushed<R: Net<Stream = TcpStream>, F: Folders, O: Output + Drop>(
     pull: Pull,
     output: O,
 ) -> (O, Result<(), Refusal>)
-    ensures done { OnOk result.1 (HandsOn (IsPulled F.Place.Disk F.Folders folders.old folders.new pull
-        (O.contents output)) (O.contents result.0)) }
-    ensures refused { IfErr result.1 (EndsWith (IsPulled F.Place.Disk F.Folders folders.old folders.new pull
-        (O.contents output)) (NotPulled F.Place.Disk F.Folders folders.old folders.new pull
-        (O.contents output) (O.failures output)) (O.failures output) (O.contents result.0)
-        (O.failures result.0)) }
+    ensures done { DeliversPull F.Place.Disk F.Folders O.Output folders.old folders.new output result.0 pull result.1 }
+    ensures refused { EndsPull F.Place.Disk F.Folders O.Output folders.old folders.new output result.0 pull result.1 }
     ensures handed { OnOk result.1 (O.is_handed_on result.0) }
     ensures unfailed { OnOk result.1 (O.failures result.0 ≡ O.failures output) }
     ensures nothing { MakesNothing F.lacks folders.old folders.new }
@@ -180,17 +170,13 @@ pub fn pull<R: Net<Stream = TcpStream>, F: Folders, O: Output + Drop, E: Output>
 ) -> (u8, O)
     ensures status { (result.0 ≡ 0) ⊎ (result.0 ≡ 1) }
     ensures nothing { MakesNothing F.lacks folders.old folders.new }
-    ensures done { result.0 ≡ 0 → HandsOn (IsPulled F.Place.Disk F.Folders folders.old folders.new pull
-        (O.contents output)) (O.contents result.1) }
+    ensures done { SucceedsAtPull F.Place.Disk F.Folders O.Output folders.old folders.new output result.1 pull
+        result.0 }
     ensures handed { result.0 ≡ 0 → O.is_handed_on result.1 }
     ensures unfailed { result.0 ≡ 0 → O.failures result.1 ≡ O.failures output }
     ensures silent { result.0 ≡ 0 → E.contents errors.new ≡ E.contents errors.old }
-    ensures refused { result.0 ≡ 1 → (e : RefusalOf)
-        × EndsWith (IsPulled F.Place.Disk F.Folders folders.old folders.new pull (O.contents output))
-        (NotPulled F.Place.Disk F.Folders folders.old folders.new pull (O.contents output) (O.failures output))
-        (O.failures output) (O.contents result.1) (O.failures result.1) e
-        × (Rose (E.failures errors.old) (E.failures errors.new)
-        ⊎ Appends (E.contents errors.old) (E.contents errors.new) (fault_line e)) }
+    ensures refused { FailsAtPull F.Place.Disk F.Folders O.Output E.Output folders.old folders.new output result.1
+        errors.old errors.new pull result.0 }
 {
     let (output, done) = pull_flushed(rt, alloc, folders, pull, output);
     match done {

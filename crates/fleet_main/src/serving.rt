@@ -2,19 +2,15 @@
 ghost use Rattle.std.specs.Prelude.{◌≡◌, ◌⊎◌, false, Ok, IfErr, OnOk, string_bytes};
 ghost use Rattle.std.specs.Option.{option_map};
 ghost use Rattle.std.specs.Io.KnownBytes.{Appends};
-ghost use Rattle.node_base.specs.declared.refusal.Refusal.{Refusal as RefusalOf};
-ghost use Rattle.byte_streams.specs.Causes.{Rose};
 ghost use Rattle.byte_streams.specs.Sinks.{inner_of};
-ghost use Rattle.node_base.specs.Refusals.{fault_line};
-ghost use Rattle.repo_store.specs.Words.{disk_of, repository_of, revisions_of, HasFailed};
+ghost use Rattle.repo_store.specs.Words.{revisions_of, IfSound, StopKeeps};
 ghost use Rattle.sockets.specs.Lines.{listening};
 ghost use Rattle.store_engines.specs.Mirrors.{is_mirror};
 ghost use Rattle.svn_ends.specs.Served.{IsOfStore};
-ghost use Rattle.fleet_disk.specs.Image.{Image};
 ghost use Rattle.fleet_disk.specs.Lending.{MakesNothing};
-ghost use Rattle.repo_store.specs.Journal.{Keeps};
-ghost use Rattle.fleet_main.specs.Doing.{EndsWith, HandsOn};
-ghost use Rattle.fleet_main.specs.Serving.{IsServedFrom, IsServerFault, NotServedFrom, NotServedIn, OfServed};
+ghost use Rattle.fleet_main.specs.Serving.{IsServerFault};
+ghost use Rattle.fleet_main.specs.Serving.{DeliversService, DoesService, EndsService, FailsAtService, RefusesService};
+ghost use Rattle.fleet_main.specs.Serving.{RefusesServing, ServesIn, SucceedsAtService};
 
 use crate::execute::refused;
 use crate::folders::opened;
@@ -37,8 +33,7 @@ use svn_ends::{Address, serve_store};
 // Whether a store's repository takes no changes, being a mirror.
 fn takes_none<D: Disk + Drop>(store: &RepoStore<D>) -> bool
     ensures mirror { result ≡ is_mirror (revisions_of store.now) }
-    ensures kept { D.honest (disk_of store.now) → ¬ HasFailed store.now → (left : Image)
-        → D.may_leave (disk_of store.now) left → Keeps (repository_of store.now) left }
+    ensures kept { IfSound store.now (StopKeeps store.now) }
 {
     is_mirror(store.repo())
 }
@@ -125,8 +120,7 @@ fn serve_opened<
 ) -> (D, O, Result<(), Refusal>)
     ensures told { OnOk result.2 (Appends (O.contents output) (O.contents result.1) (listening address.now.port)) }
     ensures back { IsOfStore D.Disk result.0 }
-    ensures kept { D.honest (disk_of store) → ¬ HasFailed store → (left : Image) → D.may_leave (disk_of store) left
-        → Keeps (repository_of store) left }
+    ensures kept { IfSound store (StopKeeps store) }
     ensures refused { IfErr result.2 IsServerFault }
     ensures unfailed { OnOk result.2 (O.failures result.1 ≡ O.failures output) }
 {
@@ -155,10 +149,10 @@ fn serve_folder<
 ) -> (O, Result<(), Refusal>)
 where
     F::Place: Send,
-    ensures done { OnOk result.1 (OfServed F.Place.Disk F.Folders folders.old folders.new folder.now
-        (Appends (O.contents output) (O.contents result.0) (listening address.now.port))) }
-    ensures refused { IfErr result.1 (NotServedIn F.Place.Disk F.Folders folders.old folders.new folder.now
-        (O.contents output) (O.contents result.0)) }
+    ensures done { ServesIn F.Place.Disk F.Folders O.Output folders.old folders.new output result.0 folder.now
+        address.now.port result.1 }
+    ensures refused { RefusesServing F.Place.Disk F.Folders O.Output folders.old folders.new output result.0 folder.now
+        result.1 }
     ensures unfailed { OnOk result.1 (O.failures result.0 ≡ O.failures output) }
     ensures nothing { MakesNothing F.lacks folders.old folders.new }
 {
@@ -190,10 +184,10 @@ fn serve_asked<
 ) -> (O, Result<(), Refusal>)
 where
     F::Place: Send,
-    ensures done { OnOk result.1 (IsServedFrom F.Place.Disk F.Folders folders.old folders.new service.now
-        (O.contents output) (O.contents result.0)) }
-    ensures refused { IfErr result.1 (NotServedFrom F.Place.Disk F.Folders folders.old folders.new
-        service.now (O.contents output) (O.contents result.0) (O.failures result.0)) }
+    ensures done { DoesService F.Place.Disk F.Folders O.Output folders.old folders.new output result.0 service.now
+        result.1 }
+    ensures refused { RefusesService F.Place.Disk F.Folders O.Output folders.old folders.new output result.0 service.now
+        result.1 }
     ensures unfailed { OnOk result.1 (O.failures result.0 ≡ O.failures output) }
     ensures nothing { MakesNothing F.lacks folders.old folders.new }
 {
@@ -222,11 +216,10 @@ fn serve_flushed<
 ) -> (O, Result<(), Refusal>)
 where
     F::Place: Send,
-    ensures done { OnOk result.1 (HandsOn (IsServedFrom F.Place.Disk F.Folders folders.old folders.new service.now
-        (O.contents output)) (O.contents result.0)) }
-    ensures refused { IfErr result.1 (EndsWith (IsServedFrom F.Place.Disk F.Folders folders.old folders.new service.now
-        (O.contents output)) (NotServedFrom F.Place.Disk F.Folders folders.old folders.new
-        service.now (O.contents output)) (O.failures output) (O.contents result.0) (O.failures result.0)) }
+    ensures done { DeliversService F.Place.Disk F.Folders O.Output folders.old folders.new output result.0 service.now
+        result.1 }
+    ensures refused { EndsService F.Place.Disk F.Folders O.Output folders.old folders.new output result.0 service.now
+        result.1 }
     ensures handed { OnOk result.1 (O.is_handed_on result.0) }
     ensures unfailed { OnOk result.1 (O.failures result.0 ≡ O.failures output) }
     ensures nothing { MakesNothing F.lacks folders.old folders.new }
@@ -269,17 +262,13 @@ where
     F::Place: Send,
     ensures status { (result.0 ≡ 0) ⊎ (result.0 ≡ 1) }
     ensures nothing { MakesNothing F.lacks folders.old folders.new }
-    ensures done { result.0 ≡ 0 → HandsOn (IsServedFrom F.Place.Disk F.Folders folders.old folders.new service.now
-        (O.contents output)) (O.contents result.1) }
+    ensures done { SucceedsAtService F.Place.Disk F.Folders O.Output folders.old folders.new output result.1 service.now
+        result.0 }
     ensures handed { result.0 ≡ 0 → O.is_handed_on result.1 }
     ensures unfailed { result.0 ≡ 0 → O.failures result.1 ≡ O.failures output }
     ensures silent { result.0 ≡ 0 → E.contents errors.new ≡ E.contents errors.old }
-    ensures refused { result.0 ≡ 1 → (e : RefusalOf)
-        × EndsWith (IsServedFrom F.Place.Disk F.Folders folders.old folders.new service.now (O.contents output))
-        (NotServedFrom F.Place.Disk F.Folders folders.old folders.new service.now
-        (O.contents output)) (O.failures output) (O.contents result.1) (O.failures result.1) e
-        × (Rose (E.failures errors.old) (E.failures errors.new)
-        ⊎ Appends (E.contents errors.old) (E.contents errors.new) (fault_line e)) }
+    ensures refused { FailsAtService F.Place.Disk F.Folders O.Output E.Output folders.old folders.new output result.1
+        errors.old errors.new service.now result.0 }
 {
     let (output, done) = serve_flushed(rt, alloc, folders, service, teller, output);
     match done {
