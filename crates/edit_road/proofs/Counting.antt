@@ -65,11 +65,11 @@ pieces_few zero t = omega arith
 pieces_few (suc k) [] = omega arith
 pieces_few (suc k) (b ∷ t) = omega (arith, pieces_few k (drop 65536 (b ∷ t)))
 
-text_few : (p : Path) (o : Option (List ℕ)) → IfSome o (λ t. length t ≤ TEXT_BYTES) → length (option_map_or (text_calls p) o []) ≤ 1048578
+text_few : (p : Path) (o : Option (List ℕ)) → IfSome o (λ t. length t ≤ TEXT_BYTES) → length (option_map_or (text_calls p) o []) ≤ TEXT_BYTES + 2
 text_few p None h = omega arith
 text_few p (Some t) h = omega (arith, h, pieces_few (length t) t, length-map (pieces t) (call.TextPiece p), length-append (map (call.TextPiece p) (pieces t)) (call.TextEnd p ∷ []))
 
-parts_few : (file : Bool) (c : Change) (old : PropMap) → IsSmall c → IsProps old → length (parts file c old) ≤ 1049123
+parts_few : (file : Bool) (c : Change) (old : PropMap) → IsSmall c → IsProps old → length (parts file c old) ≤ TEXT_BYTES + 547
 parts_few false c old small h = omega (arith, props_few (call.DirProp c.path) old c.props h small.parts.0)
 parts_few true c old small h =
     let props = option_map_or (prop_calls (call.FileProp c.path) old) c.props [] in
@@ -77,7 +77,7 @@ parts_few true c old small h =
     let close = call.CloseFile c.path (option_map md5 c.text) ∷ [] in
     omega (arith, props_few (call.FileProp c.path) old c.props h small.parts.0, text_few c.path c.text small.parts.1, length-append props (text ++ close), length-append text close)
 
-calls_few : (trees : List PathMap) (file : Bool) (c : Change) (old : PropMap) → IsSmall c → IsProps old → length (calls_with trees file old c) ≤ 1049125
+calls_few : (trees : List PathMap) (file : Bool) (c : Change) (old : PropMap) → IsSmall c → IsProps old → length (calls_with trees file old c) ≤ TEXT_BYTES + 549
 calls_few trees file c old small h =
     let a = if is_front c.path [] then [] else opening trees file c in
     let b = if is_delete c.action then [] else parts file c old in
@@ -87,7 +87,7 @@ calls_few trees file c old small h =
     first true = omega arith
     first false = opening_few trees file c
 
-    second : (b : Bool) → length (cond b [] (parts file c old)) ≤ 1049123
+    second : (b : Bool) → length (cond b [] (parts file c old)) ≤ TEXT_BYTES + 547
     second true = omega arith
     second false = parts_few file c old small h
 
@@ -103,7 +103,7 @@ small_more : (done : List Change) (c : Change) → AllByRecursion IsSmall done �
 small_more [] c d h = (h, tt)
 small_more (x ∷ done) c d h = (d.0, small_more done c d.1 h)
 
-walk_few : (trees : List PathMap) → AllByRecursion HasProps trees → (done s : List Change) (at : Path) → AllByRecursion IsSmall done → AllByRecursion IsSmall s → length at ≤ 64 → length (walk trees done at s) ≤ length s * 1049253 + 64
+walk_few : (trees : List PathMap) → AllByRecursion HasProps trees → (done s : List Change) (at : Path) → AllByRecursion IsSmall done → AllByRecursion IsSmall s → length at ≤ 64 → length (walk trees done at s) ≤ length s * (TEXT_BYTES + 677) + 64
 walk_few trees nodes done [] at d h l = omega (arith, closes_few at [] l)
 walk_few trees nodes done (c ∷ s) at d h l =
     let f = effect trees done in
@@ -122,5 +122,5 @@ walk_few trees nodes done (c ∷ s) at d h l =
       walk_few trees nodes (done ++ c ∷ []) s (rests_at trees f c) (small_more done c d h.0) h.1 (rests_few (of_file trees f c) c h.0.path),
     )
 
-pub body_few : (trees : List PathMap) (s : List Change) → IsSent trees s → length (body_of trees s) ≤ 4297740354
+pub body_few : (trees : List PathMap) (s : List Change) → IsSent trees s → length (body_of trees s) ≤ 4096 * (TEXT_BYTES + 677) + 66
 body_few trees s sent = omega (arith, sent.bounded.set.1, walk_few trees sent.nodes [] s [] tt sent.bounded.small (omega arith), length-append (walk trees [] [] s) (call.CloseDir [] ∷ call.CloseEdit ∷ []))

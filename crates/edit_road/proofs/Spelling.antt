@@ -16,7 +16,7 @@ use Rattle.node_base.specs.PathText.{is_path, path_text}
 use Rattle.node_base.specs.Props.{PropMap, IsProps}
 use Rattle.node_base.specs.Tree.{PathMap}
 use Rattle.node_base.specs.declared.node.Source.{Source}
-use Rattle.node_base.specs.declared.limits.TheConstants.{TEXT_BYTES}
+use Rattle.ra_item.specs.declared.limits.TheConstants.{STRING_BYTES}
 use Rattle.node_base.proofs.ReadBack.{fits_of_path, weight_of_fits, length_of_text}
 use Rattle.dump_load.specs.declared.change.Change.{Change}
 use Rattle.delta_editor.specs.declared.call.Call.{Call}
@@ -83,7 +83,7 @@ command_within name params w n l h =
       bytes = omega (arith, n, l, r.2, length-append (spell_all (row params)) (41 ∷ 32 ∷ []), length-append inner [], length-append name (32 ∷ []), length-append (name ++ 32 ∷ []) (inner ++ []), length-append ((name ++ 32 ∷ []) ++ (inner ++ [])) (41 ∷ 32 ∷ []));
     }
 
-text_leaf : (t : List ℕ) → length t ≤ TEXT_BYTES → Leaf (Text t)
+text_leaf : (t : List ℕ) → length t ≤ STRING_BYTES → Leaf (Text t)
 text_leaf t l = record {
   fits = l;
   flat = omega arith;

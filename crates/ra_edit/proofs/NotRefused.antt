@@ -4,7 +4,7 @@ use Rattle.std.specs.Prelude.{Vec}
 use Rattle.std.specs.List.{AllByRecursion}
 use Rattle.std.specs.Option.{option_map}
 use Rattle.std.proofs.lemmas.List.{append_cancel_left}
-use Rattle.svndiff.specs.declared.limits.TheConstants.{TEXT_BYTES}
+use Rattle.ra_item.specs.declared.limits.TheConstants.{STRING_BYTES}
 use denote.RawPtr.{null_ptr}
 use Rattle.ra_item.specs.Items.{Item, Within, row, spell_all, Text, Nested, Fits}
 use Rattle.ra_item.specs.Laws.{WrittenIsRead}
@@ -44,7 +44,7 @@ use Rattle.ra_edit.proofs.WrittenReceived.{first_or, same_front, items_behind, t
 -- ---- an item of an edit is a command
 
 -- bytes that are held
-abbrev held : (bytes : List ℕ) → length bytes ≤ TEXT_BYTES → Vec ℕ Global
+abbrev held : (bytes : List ℕ) → length bytes ≤ STRING_BYTES → Vec ℕ Global
 held bytes h = record { ptr = null_ptr; len = length bytes; cap = length bytes; alloc = record { memory = record { seal = tt } }; items = bytes; ok = (refl, omega arith); small = omega (arith, h) }
 
 -- the parameters of a command that fits
