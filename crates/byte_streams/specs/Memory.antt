@@ -1,5 +1,5 @@
 -- What is known of streams for tests, and of a writer to memory.
-use Rattle.std.specs.Prelude.{ℕ, List}
+use Rattle.std.specs.Prelude.{◌≡◌, ◌++◌, ℕ, List, true}
 use Rattle.byte_streams.specs.declared.fuse.FuseInput.{FuseInput}
 use Rattle.byte_streams.specs.declared.memory.MemOutput.{MemOutput}
 use Rattle.byte_streams.specs.declared.vec_writer.VecWriter.{VecWriter}
@@ -31,3 +31,15 @@ failures_of output = output.failures
 -- what was written to memory
 abbrev pub written_in : VecWriter → List ℕ
 written_in writer = writer.bytes.items
+
+-- memory was refused in no write
+abbrev pub IsWhole : VecWriter → Type 0
+IsWhole writer = writer.is_whole ≡ true
+
+-- these bytes are written behind the others, if memory was refused in no write up to there
+abbrev pub Adds : VecWriter → VecWriter → List ℕ → Type 0
+Adds old new bytes = IsWhole new → IsWhole old × (written_in new ≡ written_in old ++ bytes)
+
+-- these bytes are all that was written
+abbrev pub HasAll : VecWriter → List ℕ → Type 0
+HasAll writer bytes = IsWhole writer × (bytes ≡ written_in writer)

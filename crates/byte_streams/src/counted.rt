@@ -76,6 +76,18 @@ impl<W: Write + Drop> CountedWriter<W> {
         }
     }
 
+    /// The writer.
+    pub fn into_inner(self) -> W
+        ensures { result ≡ writer_of self }
+    {
+        let CountedWriter {
+            inner,
+            failures: _,
+            is_flushed: _,
+        } = self;
+        inner
+    }
+
     // Counts a failure of the writer.
     fn fail(&mut self) -> StreamFault
         ensures inner { self.new.inner ≡ self.old.inner }

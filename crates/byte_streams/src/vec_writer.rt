@@ -1,20 +1,20 @@
 //! A writer to memory.
-ghost use Rattle.std.specs.Prelude.{◌≡◌, ◌≤◌, ◌++◌, [], IfOk, length, take, Option, Some};
+ghost use Rattle.std.specs.Prelude.{◌≡◌, [], IfOk, OnErr};
 
 use std::alloc::{AllocError, Global};
-use std::io;
-use std::io::{ErrorKind, Write};
 
-/// Bytes in memory, as a writer of std each of whose writes is one append.
+/// Bytes in memory, which are written one after another.
 ///
-/// A `Vec` is such a writer too, whose `write_all` is std's loop over `write`.
+/// A write answers nothing. Where memory is refused in one, that is kept, and nothing more is written. Whoever takes the
+/// bytes is told: they are all that was written, or none are given.
 #[derive(Drop)]
 pub struct VecWriter {
     bytes: Vec<u8>,
+    is_whole: bool,
 }
 
 impl VecWriter {
-    ghost use Rattle.byte_streams.specs.Memory.{written_in};
+    ghost use Rattle.byte_streams.specs.Memory.{written_in, Adds, HasAll, IsWhole};
 
     /// Nothing was written, and nothing was asked of memory.
     pub fn new(alloc: Global) -> VecWriter
@@ -22,59 +22,56 @@ impl VecWriter {
     {
         VecWriter {
             bytes: Vec::new(alloc),
+            is_whole: true,
         }
     }
 
-    /// Nothing was written, and there is room for so many bytes.
-    pub fn with_room(alloc: Global, room: usize) -> Result<VecWriter, AllocError>
-        ensures { IfOk result (λ w. written_in w ≡ []) }
+    /// Nothing was written, and there is room for so many bytes, if memory isn't refused.
+    pub fn with_room(alloc: Global, room: usize) -> VecWriter
+        ensures { written_in result ≡ [] }
     {
-        let bytes = Vec::with_capacity(alloc, room)?;
-        Ok(VecWriter { bytes })
+        let mut writer = VecWriter::new(alloc);
+        writer.restart(room);
+        writer
     }
 
-    /// Forgets what was written, and makes room for so many bytes.
-    pub fn restart(&mut self, room: usize) -> Result<(), AllocError>
+    /// Forgets what was written and whether memory was refused, and makes room for so many bytes.
+    pub fn restart(&mut self, room: usize)
         ensures { written_in self.new ≡ [] }
     {
         self.bytes.clear();
-        self.bytes.reserve(room)
+        self.is_whole = self.bytes.reserve(room).is_ok();
     }
 
-    /// What was written.
-    pub fn as_slice(&self) -> &[u8]
-        ensures { result.now ≡ written_in self.now }
-    {
-        self.bytes.as_slice()
-    }
-
-    /// What was written.
-    pub fn into_bytes(self) -> Vec<u8>
-        ensures { result.items ≡ written_in self }
-    {
-        self.bytes
-    }
-}
-
-impl Write for VecWriter {
-    ghost contents = { λ w. Some w.bytes.items };
-
-    fn write(&mut self, buf: &[u8]) -> io::Result<usize> {
-        match self.bytes.extend_from_slice(buf) {
-            Ok(()) => Ok(buf.len()),
-            Err(_) => Err(io::Error::from(ErrorKind::OutOfMemory)),
-        }
-    }
-
+    /// Writes these bytes behind the others.
     #[inline(always)]
-    fn write_all(&mut self, buf: &[u8]) -> io::Result<()> {
-        match self.bytes.extend_from_slice(buf) {
-            Ok(()) => Ok(()),
-            Err(_) => Err(io::Error::from(ErrorKind::OutOfMemory)),
+    pub fn write(&mut self, bytes: &[u8])
+        ensures { Adds self.old self.new bytes.now }
+    {
+        if self.is_whole {
+            self.is_whole = self.bytes.extend_from_slice(bytes).is_ok();
         }
     }
 
-    fn flush(&mut self) -> io::Result<()> {
-        Ok(())
+    /// What was written. It is refused only where memory was.
+    pub fn as_slice(&self) -> Result<&[u8], AllocError>
+        ensures all { IfOk result (λ bytes. HasAll self.now bytes.now) }
+        ensures cause { OnErr result (¬ IsWhole self.now) }
+    {
+        if !self.is_whole {
+            return Err(AllocError);
+        }
+        Ok(self.bytes.as_slice())
+    }
+
+    /// What was written. It is refused only where memory was.
+    pub fn into_bytes(self) -> Result<Vec<u8>, AllocError>
+        ensures all { IfOk result (λ bytes. HasAll self bytes.items) }
+        ensures cause { OnErr result (¬ IsWhole self) }
+    {
+        if !self.is_whole {
+            return Err(AllocError);
+        }
+        Ok(self.bytes)
     }
 }

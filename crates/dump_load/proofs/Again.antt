@@ -11,12 +11,13 @@ use Rattle.node_base.specs.declared.node.NodeKind.TheVariants.{File, Dir}
 use Rattle.node_base.specs.declared.node.Source.{Source}
 use Rattle.dump_text.specs.declared.record.NodeRecord.{NodeRecord}
 use Rattle.dump_text.specs.declared.record.PropPart.TheVariants.{Whole}
+use Rattle.dump_text.specs.Written.{map_of}
 use Rattle.dump_load.specs.declared.change.Change.{Change}
 use Rattle.dump_load.specs.Changes.{is_delete, is_plain, brings, change_at, Precedes, IsInOrder, IsNormal}
 use Rattle.dump_load.specs.Effect.{effect}
 use Rattle.dump_load.specs.Faults.{judged}
 use Rattle.dump_load.specs.Deltas.{part_delta, delta_in, deltas_of, delta_at, found_props, with_delta, delta_fault_after, delta_fault, sound}
-use Rattle.dump_load.specs.Records.{change_of, record_of, whole_props, stated_at, combined, stated, blank_text, blanked, with_blanks, with_kind, filled_in, earlier, IsSetOf, IsNormalSetOf}
+use Rattle.dump_load.specs.Records.{change_of, record_of, stated_at, combined, stated, blank_text, blanked, with_blanks, with_kind, filled_in, earlier, IsSetOf, IsNormalSetOf}
 use Rattle.node_base.specs.PropDeltas.{applied}
 use Rattle.node_base.specs.declared.prop_delta.PropDelta.{PropDelta}
 use Rattle.std.specs.FinMap as finite
@@ -29,7 +30,7 @@ use Rattle.node_base.proofs.PathLemmas.{path_of_same}
 same_change : (c : Change) → change_of (record_of c) ≡ c
 same_change c = ap (λ props. record { path = c.path; action = c.action; kind = c.kind; source = c.source; props = props; text = c.text }) (at c.props)
   where
-    at : (o : Option PropMap) → option_map whole_props (option_map Whole o) ≡ o
+    at : (o : Option PropMap) → option_map map_of (option_map Whole o) ≡ o
     at None = refl
     at (Some p) = refl
 

@@ -5,7 +5,6 @@ use Rattle.std.specs.List.{filter, list_any}
 use Rattle.std.specs.Ordering.{is_lt}
 use Rattle.std.specs.FinMap as finite
 use Rattle.node_base.specs.Path.{Path, path_cmp, same_path, is_front}
-use Rattle.node_base.specs.Props.{PropMap}
 use Rattle.node_base.specs.Tree.{PathMap}
 use Rattle.node_base.specs.declared.node.Node.{Node}
 use Rattle.node_base.specs.declared.fault.TreeFault.{TreeFault}
@@ -14,8 +13,8 @@ use Rattle.node_base.specs.declared.node.NodeKind.{NodeKind}
 use Rattle.node_base.specs.declared.node.NodeKind.TheVariants.{File, Dir}
 use Rattle.node_base.specs.declared.limits.TheConstants.{CHANGES}
 use Rattle.dump_text.specs.declared.record.NodeRecord.{NodeRecord}
-use Rattle.dump_text.specs.declared.record.PropPart.{PropPart}
-use Rattle.dump_text.specs.declared.record.PropPart.TheVariants.{Whole, Delta}
+use Rattle.dump_text.specs.declared.record.PropPart.TheVariants.{Whole}
+use Rattle.dump_text.specs.Written.{map_of}
 use Rattle.dump_load.specs.declared.change.Change.{Change}
 use Rattle.dump_load.specs.declared.fault.ChangeFault.{ChangeFault}
 use Rattle.dump_load.specs.declared.fault.ChangeFault.TheVariants as refusal
@@ -24,14 +23,9 @@ use Rattle.dump_load.specs.Effect.{effect}
 use Rattle.dump_load.specs.Faults.{fault_if, first_of, judged, fault, refused, IsRefusal}
 use Rattle.dump_load.specs.Deltas.{Deltas, deltas_of, delta_at, with_delta, sound, delta_fault}
 
--- a whole list, or what a delta makes of an empty one
-abbrev pub whole_props : PropPart → PropMap
-whole_props (Whole props) = props
-whole_props (Delta d) = d.sets
-
 -- the change that a record states, but for its delta
 abbrev pub change_of : NodeRecord → Change
-change_of r = record { path = r.path; action = r.action; kind = r.kind; source = r.source; props = option_map whole_props r.props; text = r.text }
+change_of r = record { path = r.path; action = r.action; kind = r.kind; source = r.source; props = option_map map_of r.props; text = r.text }
 
 -- the record that states a change
 abbrev pub record_of : Change → NodeRecord

@@ -1,6 +1,7 @@
 //! Sets of small revisions, and what they make of trees.
 
 use crate::spelled::{all_hold, answer, records, two_trees};
+use byte_streams::VecWriter;
 use dump_load::{ChangeSet, load_revision};
 use dump_text::{NodeRecord, RevRecord, write_revision};
 use node_base::{Action, NodeKind, Props, RevNo, Text};
@@ -103,14 +104,14 @@ Node-action: delete
 
 // Revision 2 of a set, as it is written.
 fn written(rt: &impl Abort, alloc: Global, set: &ChangeSet) -> Vec<u8> {
-    let mut written = Vec::new(alloc);
+    let mut written = VecWriter::new(alloc);
     let revision = RevRecord {
         number: RevNo::new(2),
         props: Props::empty(),
         nodes: records_of(rt, alloc, set),
     };
-    write_revision(&mut written, &revision).expect(rt, "memory");
-    written
+    write_revision(&mut written, &revision).expect(rt, "whole lists of properties");
+    written.into_bytes().expect(rt, "memory")
 }
 
 #[test]

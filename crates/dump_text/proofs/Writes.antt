@@ -1,20 +1,18 @@
 -- Writes one after another.
-use Rattle.std.proofs.Common.{◌≡◌, ℕ, ◌+◌, ◌<◌, List, [], ◌∷◌, ◌++◌, length, take, get_or, Option, Some, None, subst, sym, ap, ◌∙◌, append_assoc, append-nil}
+use Rattle.std.proofs.Common.{◌≡◌, ℕ, ◌+◌, ◌<◌, List, [], ◌∷◌, ◌++◌, length, take, get_or, subst, sym, ap, ◌∙◌, append_assoc, append-nil}
 use Rattle.std.specs.List.{flat_map}
 use Rattle.std.proofs.lemmas.List.{take_more}
 use Rattle.std.proofs.lemmas.Grind.{flat_map-append}
-use Rattle.std.specs.Io.KnownBytes.{Appends}
+use Rattle.byte_streams.specs.Memory.{written_in, Adds}
+use Rattle.byte_streams.specs.declared.vec_writer.VecWriter.{VecWriter}
 
 -- a write behind a write
-pub join : (a b c : Option (List ℕ)) (x y : List ℕ) → Appends a b x → Appends b c y → Appends a c (x ++ y)
-join None b c x y p q = p
-join (Some a) None c x y p q = absurd p
-join (Some a) (Some b) None x y p q = absurd q
-join (Some a) (Some b) (Some c) x y p q = q ∙ ap (λ t. t ++ y) p ∙ append_assoc a x y
+pub join : (a b c : VecWriter) (x y : List ℕ) → Adds a b x → Adds b c y → Adds a c (x ++ y)
+join a b c x y p q = λ whole. let s = q whole in let r = p s.0 in (r.0, s.1 ∙ ap (λ t. t ++ y) r.1 ∙ append_assoc (written_in a) x y)
 
 -- the same bytes, said otherwise
-pub wrote_as : (a b : Option (List ℕ)) (x y : List ℕ) → x ≡ y → Appends a b x → Appends a b y
-wrote_as a b x y e p = subst (λ z. Appends a b z) e p
+pub wrote_as : (a b : VecWriter) (x y : List ℕ) → x ≡ y → Adds a b x → Adds a b y
+wrote_as a b x y e p = subst (λ z. Adds a b z) e p
 
 -- an element more
 pub mapped_more : {X : Type 0} (f : X → List ℕ) (xs : List X) (i : ℕ) (x d : X) → i < length xs → x ≡ get_or xs i d → flat_map f (take i xs) ++ f x ≡ flat_map f (take (i + 1) xs)

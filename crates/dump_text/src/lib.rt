@@ -5,7 +5,7 @@ pub use delta::DeltaBytes;
 pub use fault::{DumpFault, dump_refusal};
 pub use reader::DumpReader;
 pub use record::{DeltaText, DumpRecord, NodeRecord, PropPart, RevRecord};
-pub use writer::{write_head, write_props_entry, write_revision};
+pub use writer::{WriteFault, write_head, write_props_entry, write_revision};
 
 mod delta;
 mod fault;

@@ -1,10 +1,10 @@
 //! The canonical spelling.
 
-ghost use Rattle.std.specs.Prelude.{◌≡◌, ◌+◌, [], ◌∷◌, length, Some, true, false, OnOk, codes};
+ghost use Rattle.std.specs.Prelude.{◌≡◌, ◌+◌, [], ◌∷◌, length, Some, true, false, OnOk, OnErr, codes};
 ghost use Rattle.std.specs.Fmt.{decimal as printed};
 ghost use Rattle.node_base.specs.PathText.{path_text, slashed};
 ghost use Rattle.std.specs.List.{flat_map};
-ghost use Rattle.std.specs.Io.KnownBytes.{Appends};
+ghost use Rattle.byte_streams.specs.Memory.{Adds};
 ghost use Rattle.hex.specs.Hex.{encode_lower};
 ghost use Rattle.md5.specs.Md5.{md5};
 ghost use Rattle.dump_text.specs.Grammar.{Dump};
@@ -16,174 +16,171 @@ ghost use Rattle.dump_text.specs.Canon.{block_of, block_line, text_of, text_line
 
 use crate::limits::{entry_reads_again, revision_reads_again};
 use crate::record::{NodeRecord, PropPart, RevRecord};
+use byte_streams::VecWriter;
 use itoa::Buffer;
 use node_base::{Action, NodeKind, NodeName, NodePath, Props, RevNo, Source, Text};
-use std::io;
-use std::io::{ErrorKind, Write};
+use thiserror::Error;
 use uuid::Uuid;
 
-/// Writes the version block, and the identity's block where one is given.
-pub fn write_head<W: Write>(out: &mut W, uuid: Option<&Uuid>) -> io::Result<()>
-    ensures bytes { OnOk result (Appends (W.contents out.old) (W.contents out.new) (canon_head (now_of uuid.entry))) }
-    // read again, these bytes are a dump of that identity alone
-    ensures again { OnOk result (Dump (canon_head (now_of uuid.entry)) (read_identity (now_of uuid.entry))) }
-{
-    out.write_all(b"SVN-fs-dump-format-version: 2\n\n")?;
-    write_identity(out, uuid)?;
-    Ok(())
+/// Why a revision isn't written.
+#[derive(Clone, Copy, Debug, PartialEq, Eq, Error)]
+pub enum WriteFault {
+    /// A node gives its properties as a delta, which format 2 can't say.
+    #[error("properties as a delta")]
+    PropDelta,
 }
 
-fn write_identity<W: Write>(out: &mut W, uuid: Option<&Uuid>) -> io::Result<()>
-    ensures bytes { OnOk result (Appends (W.contents out.old) (W.contents out.new)
-        (canon_identity (now_of uuid.entry))) }
-    ensures again { OnOk result (Dump (canon_head (now_of uuid.entry)) (read_identity (now_of uuid.entry))) }
+/// Writes the version block, and the identity's block where one is given.
+pub fn write_head(out: &mut VecWriter, uuid: Option<&Uuid>)
+    ensures bytes { Adds out.old out.new (canon_head (now_of uuid.entry)) }
+    // read again, these bytes are a dump of that identity alone
+    ensures again { Dump (canon_head (now_of uuid.entry)) (read_identity (now_of uuid.entry)) }
 {
-    match uuid {
-        Some(uuid) => write_uuid(out, uuid),
-        None => Ok(()),
+    out.write(b"SVN-fs-dump-format-version: 2\n\n");
+    write_identity(out, uuid);
+}
+
+fn write_identity(out: &mut VecWriter, uuid: Option<&Uuid>)
+    ensures bytes { Adds out.old out.new (canon_identity (now_of uuid.entry)) }
+    ensures again { Dump (canon_head (now_of uuid.entry)) (read_identity (now_of uuid.entry)) }
+{
+    if let Some(uuid) = uuid {
+        write_uuid(out, uuid);
     }
 }
 
-fn write_uuid<W: Write>(out: &mut W, uuid: &Uuid) -> io::Result<()>
-    ensures bytes { OnOk result (Appends (W.contents out.old) (W.contents out.new) (canon_identity (Some uuid.now))) }
-    ensures again { OnOk result (Dump (canon_head (Some uuid.now)) (read_identity (Some uuid.now))) }
+fn write_uuid(out: &mut VecWriter, uuid: &Uuid)
+    ensures bytes { Adds out.old out.new (canon_identity (Some uuid.now)) }
+    ensures again { Dump (canon_head (Some uuid.now)) (read_identity (Some uuid.now)) }
 {
     let mut buffer = Uuid::encode_buffer();
     let text = uuid.hyphenated().encode_lower(&mut buffer);
-    out.write_all(b"UUID: ")?;
-    out.write_all(text.as_bytes())?;
-    out.write_all(b"\n\n")?;
-    Ok(())
+    out.write(b"UUID: ");
+    out.write(text.as_bytes());
+    out.write(b"\n\n");
 }
 
 /// Writes a revision record: the number, the property block, and no nodes.
-pub fn write_props_entry<W: Write>(out: &mut W, number: RevNo, props: &Props) -> io::Result<()>
-    ensures bytes { OnOk result (Appends (W.contents out.old) (W.contents out.new) (canon_entry number props.now)) }
+pub fn write_props_entry(out: &mut VecWriter, number: RevNo, props: &Props)
+    ensures bytes { Adds out.old out.new (canon_entry number props.now) }
     // read again, these bytes are that record, whatever stands before them
     ensures again { AreRecords (canon_entry number props.now) (Revision number props.now ∷ []) }
 {
     entry_reads_again(number, props);
-    write_entry(out, number, props)?;
-    Ok(())
+    write_entry(out, number, props);
 }
 
 // Writes a header line: its name with colon and blank, its value, an LF.
-fn write_line<W: Write>(out: &mut W, name: &[u8], value: &[u8]) -> io::Result<()>
-    ensures { OnOk result (Appends (W.contents out.old) (W.contents out.new) (header_line name.now value.now)) }
+fn write_line(out: &mut VecWriter, name: &[u8], value: &[u8])
+    ensures { Adds out.old out.new (header_line name.now value.now) }
 {
-    out.write_all(name)?;
-    out.write_all(value)?;
-    out.write_all(b"\n")
+    out.write(name);
+    out.write(value);
+    out.write(b"\n");
 }
 
 // Writes a header line with a number.
-fn write_count<W: Write>(out: &mut W, name: &[u8], count: u64) -> io::Result<()>
-    ensures { OnOk result (Appends (W.contents out.old) (W.contents out.new) (header_line name.now (printed count))) }
+fn write_count(out: &mut VecWriter, name: &[u8], count: u64)
+    ensures { Adds out.old out.new (header_line name.now (printed count)) }
 {
     let mut digits = Buffer::new();
-    write_line(out, name, digits.format(count).as_bytes())
+    write_line(out, name, digits.format(count).as_bytes());
 }
 
 // Writes names, each behind a slash.
-fn write_slashed<W: Write>(out: &mut W, names: &[NodeName]) -> io::Result<()>
-    ensures { OnOk result (Appends (W.contents out.old) (W.contents out.new) (slashed names.now)) }
+fn write_slashed(out: &mut VecWriter, names: &[NodeName])
+    ensures { Adds out.old out.new (slashed names.now) }
 {
     for name in names {
-        out.write_all(b"/")?;
-        out.write_all(name.as_str().as_bytes())?;
+        out.write(b"/");
+        out.write(name.as_str().as_bytes());
     }
-    Ok(())
 }
 
 // Writes a name, and others behind slashes.
-fn write_first<W: Write>(out: &mut W, first: &NodeName, rest: &[NodeName]) -> io::Result<()>
-    ensures { OnOk result (Appends (W.contents out.old) (W.contents out.new) (path_text (first.now ∷ rest.now))) }
+fn write_first(out: &mut VecWriter, first: &NodeName, rest: &[NodeName])
+    ensures { Adds out.old out.new (path_text (first.now ∷ rest.now)) }
 {
-    out.write_all(first.as_str().as_bytes())?;
-    write_slashed(out, rest)
+    out.write(first.as_str().as_bytes());
+    write_slashed(out, rest);
 }
 
 // Writes names with a slash between each two.
-fn write_names<W: Write>(out: &mut W, names: &[NodeName]) -> io::Result<()>
-    ensures { OnOk result (Appends (W.contents out.old) (W.contents out.new) (path_text names.now)) }
+fn write_names(out: &mut VecWriter, names: &[NodeName])
+    ensures { Adds out.old out.new (path_text names.now) }
 {
-    match names.split_first() {
-        Some((first, rest)) => write_first(out, first, rest),
-        None => Ok(()),
+    if let Some((first, rest)) = names.split_first() {
+        write_first(out, first, rest);
     }
 }
 
 // Writes a header line with a path.
-fn write_path<W: Write>(out: &mut W, name: &[u8], path: &NodePath) -> io::Result<()>
-    ensures { OnOk result (Appends (W.contents out.old) (W.contents out.new)
-        (header_line name.now (path_text path.now))) }
+fn write_path(out: &mut VecWriter, name: &[u8], path: &NodePath)
+    ensures { Adds out.old out.new (header_line name.now (path_text path.now)) }
 {
-    out.write_all(name)?;
-    write_names(out, path.names())?;
-    out.write_all(b"\n")
+    out.write(name);
+    write_names(out, path.names());
+    out.write(b"\n");
 }
 
-fn write_entry<W: Write>(out: &mut W, number: RevNo, props: &Props) -> io::Result<()>
-    ensures { OnOk result (Appends (W.contents out.old) (W.contents out.new) (canon_entry number props.now)) }
+fn write_entry(out: &mut VecWriter, number: RevNo, props: &Props)
+    ensures { Adds out.old out.new (canon_entry number props.now) }
 {
     let len = props.block_len();
-    write_count(out, b"Revision-number: ", u64::from(number.get()))?;
-    write_count(out, b"Prop-content-length: ", len)?;
-    write_count(out, b"Content-length: ", len)?;
-    out.write_all(b"\n")?;
-    props.write_block(out)?;
-    out.write_all(b"\n")?;
-    Ok(())
+    write_count(out, b"Revision-number: ", u64::from(number.get()));
+    write_count(out, b"Prop-content-length: ", len);
+    write_count(out, b"Content-length: ", len);
+    out.write(b"\n");
+    props.write_block(out);
+    out.write(b"\n");
 }
 
-/// Writes a revision with its nodes, in the order in which they stand. Where a node gives its properties as a delta,
-/// which format 2 can't say, the answer is an error (InvalidInput), and nothing is written.
-pub fn write_revision<W: Write>(out: &mut W, revision: &RevRecord) -> io::Result<()>
-    ensures bytes { OnOk result (Appends (W.contents out.old) (W.contents out.new) (canon_revision revision.now)) }
+/// Writes a revision with its nodes, in the order in which they stand. PropDelta where a node gives its properties as a
+/// delta, and only there; then nothing is written.
+pub fn write_revision(out: &mut VecWriter, revision: &RevRecord) -> Result<(), WriteFault>
+    ensures bytes { OnOk result (Adds out.old out.new (canon_revision revision.now)) }
     ensures whole { OnOk result (are_whole revision.now.nodes.items ≡ true) }
-    ensures unwritten { are_whole revision.now.nodes.items ≡ false → W.contents out.new ≡ W.contents out.old }
+    ensures unwritten { OnErr result ((are_whole revision.now.nodes.items ≡ false) × (out.new ≡ out.old)) }
     // read again, these bytes are the same records, but that a deletion's kind isn't written
     ensures again { AreFormed revision.now.nodes.items → AreRecords (canon_revision revision.now)
         (read_revision revision.now) }
 {
     revision_reads_again(revision);
     if !revision.is_whole() {
-        return Err(io::Error::from(ErrorKind::InvalidInput));
+        return Err(WriteFault::PropDelta);
     }
-    write_whole(out, revision)
+    write_whole(out, revision);
+    Ok(())
 }
 
 // Writes a revision with its nodes.
-fn write_whole<W: Write>(out: &mut W, revision: &RevRecord) -> io::Result<()>
-    ensures { OnOk result (Appends (W.contents out.old) (W.contents out.new) (canon_revision revision.now)) }
+fn write_whole(out: &mut VecWriter, revision: &RevRecord)
+    ensures { Adds out.old out.new (canon_revision revision.now) }
 {
-    write_entry(out, revision.number, &revision.props)?;
-    write_nodes(out, revision.nodes.as_slice())?;
-    Ok(())
+    write_entry(out, revision.number, &revision.props);
+    write_nodes(out, revision.nodes.as_slice());
 }
 
-fn write_nodes<W: Write>(out: &mut W, nodes: &[NodeRecord]) -> io::Result<()>
-    ensures { OnOk result (Appends (W.contents out.old) (W.contents out.new) (flat_map canon_node nodes.now)) }
+fn write_nodes(out: &mut VecWriter, nodes: &[NodeRecord])
+    ensures { Adds out.old out.new (flat_map canon_node nodes.now) }
 {
     for node in nodes {
-        write_node(out, node)?;
+        write_node(out, node);
     }
-    Ok(())
 }
 
-fn write_node<W: Write>(out: &mut W, node: &NodeRecord) -> io::Result<()>
-    ensures { OnOk result (Appends (W.contents out.old) (W.contents out.new) (canon_node node.now)) }
+fn write_node(out: &mut VecWriter, node: &NodeRecord)
+    ensures { Adds out.old out.new (canon_node node.now) }
 {
     let action = action_word(node.action);
-    write_path(out, b"Node-path: ", &node.path)?;
-    write_kind(out, told_kind(node.action, node.kind))?;
-    write_line(out, b"Node-action: ", action.as_bytes())?;
-    write_source(out, &node.source)?;
-    write_block_line(out, &node.props)?;
-    write_text_lines(out, &node.text)?;
-    write_content_line(out, &node.props, &node.text)?;
-    write_content(out, &node.props, &node.text)?;
-    Ok(())
+    write_path(out, b"Node-path: ", &node.path);
+    write_kind(out, told_kind(node.action, node.kind));
+    write_line(out, b"Node-action: ", action.as_bytes());
+    write_source(out, &node.source);
+    write_block_line(out, &node.props);
+    write_text_lines(out, &node.text);
+    write_content_line(out, &node.props, &node.text);
+    write_content(out, &node.props, &node.text);
 }
 
 fn kind_word(kind: NodeKind) -> &'static str
@@ -216,55 +213,49 @@ fn told_kind(action: Action, kind: Option<NodeKind>) -> Option<NodeKind>
     }
 }
 
-fn write_kind<W: Write>(out: &mut W, kind: Option<NodeKind>) -> io::Result<()>
-    ensures { OnOk result (Appends (W.contents out.old) (W.contents out.new) (kind_line kind)) }
+fn write_kind(out: &mut VecWriter, kind: Option<NodeKind>)
+    ensures { Adds out.old out.new (kind_line kind) }
 {
     if let Some(kind) = kind {
         let word = kind_word(kind);
-        write_line(out, b"Node-kind: ", word.as_bytes())?;
+        write_line(out, b"Node-kind: ", word.as_bytes());
     }
-    Ok(())
 }
 
-fn write_source<W: Write>(out: &mut W, source: &Option<Source>) -> io::Result<()>
-    ensures { OnOk result (Appends (W.contents out.old) (W.contents out.new) (source_lines source.now)) }
+fn write_source(out: &mut VecWriter, source: &Option<Source>)
+    ensures { Adds out.old out.new (source_lines source.now) }
 {
     if let Some(source) = source {
         let number = source.revision;
-        write_count(out, b"Node-copyfrom-rev: ", u64::from(number.get()))?;
-        write_path(out, b"Node-copyfrom-path: ", &source.path)?;
+        write_count(out, b"Node-copyfrom-rev: ", u64::from(number.get()));
+        write_path(out, b"Node-copyfrom-path: ", &source.path);
     }
-    Ok(())
 }
 
-fn write_block_line<W: Write>(out: &mut W, props: &Option<PropPart>) -> io::Result<()>
-    ensures { OnOk result (Appends (W.contents out.old) (W.contents out.new) (block_line props.now)) }
+fn write_block_line(out: &mut VecWriter, props: &Option<PropPart>)
+    ensures { Adds out.old out.new (block_line props.now) }
 {
     if let Some(PropPart::Whole(props)) = props {
-        write_count(out, b"Prop-content-length: ", props.block_len())?;
+        write_count(out, b"Prop-content-length: ", props.block_len());
     }
-    Ok(())
 }
 
-fn write_text_lines<W: Write>(out: &mut W, text: &Option<Text>) -> io::Result<()>
-    ensures { OnOk result (Appends (W.contents out.old) (W.contents out.new) (text_lines text.now)) }
+fn write_text_lines(out: &mut VecWriter, text: &Option<Text>)
+    ensures { Adds out.old out.new (text_lines text.now) }
 {
     if let Some(text) = text {
-        write_count(out, b"Text-content-length: ", text.len() as u64)?;
-        write_sum(out, text)?;
+        write_count(out, b"Text-content-length: ", text.len() as u64);
+        write_sum(out, text);
     }
-    Ok(())
 }
 
-fn write_sum<W: Write>(out: &mut W, text: &Text) -> io::Result<()>
-    ensures { OnOk result (Appends (W.contents out.old) (W.contents out.new)
-        (header_line (codes "Text-content-md5: ") (encode_lower (md5 text.now)))) }
+fn write_sum(out: &mut VecWriter, text: &Text)
+    ensures { Adds out.old out.new (header_line (codes "Text-content-md5: ") (encode_lower (md5 text.now))) }
 {
     let digits = hex_of(text.sum());
-    out.write_all(b"Text-content-md5: ")?;
-    out.write_all(digits.as_slice())?;
-    out.write_all(b"\n")?;
-    Ok(())
+    out.write(b"Text-content-md5: ");
+    out.write(digits.as_slice());
+    out.write(b"\n");
 }
 
 /// A sum in 32 hexadecimal digits, in lower case.
@@ -291,50 +282,38 @@ fn content_len(props: &Option<PropPart>, text: &Option<Text>) -> u128
     }
 }
 
-fn write_content_line<W: Write>(
-    out: &mut W,
-    props: &Option<PropPart>,
-    text: &Option<Text>,
-) -> io::Result<()>
-    ensures { OnOk result (Appends (W.contents out.old) (W.contents out.new) (content_line props.now text.now)) }
+fn write_content_line(out: &mut VecWriter, props: &Option<PropPart>, text: &Option<Text>)
+    ensures { Adds out.old out.new (content_line props.now text.now) }
 {
     if props.is_some() || text.is_some() {
         let mut digits = Buffer::new();
         let len = digits.format(content_len(props, text));
-        write_line(out, b"Content-length: ", len.as_bytes())?;
+        write_line(out, b"Content-length: ", len.as_bytes());
     }
-    Ok(())
 }
 
-fn write_block<W: Write>(out: &mut W, props: &Option<PropPart>) -> io::Result<()>
-    ensures { OnOk result (Appends (W.contents out.old) (W.contents out.new) (block_of props.now)) }
+fn write_block(out: &mut VecWriter, props: &Option<PropPart>)
+    ensures { Adds out.old out.new (block_of props.now) }
 {
     if let Some(PropPart::Whole(props)) = props {
-        props.write_block(out)?;
+        props.write_block(out);
     }
-    Ok(())
 }
 
-fn write_text<W: Write>(out: &mut W, text: &Option<Text>) -> io::Result<()>
-    ensures { OnOk result (Appends (W.contents out.old) (W.contents out.new) (text_of text.now)) }
+fn write_text(out: &mut VecWriter, text: &Option<Text>)
+    ensures { Adds out.old out.new (text_of text.now) }
 {
     if let Some(text) = text {
-        out.write_all(text.as_slice())?;
+        out.write(text.as_slice());
     }
-    Ok(())
 }
 
 /// Writes an empty line, what the lengths announce, and two LF.
-fn write_content<W: Write>(
-    out: &mut W,
-    props: &Option<PropPart>,
-    text: &Option<Text>,
-) -> io::Result<()>
-    ensures { OnOk result (Appends (W.contents out.old) (W.contents out.new) (content_of props.now text.now)) }
+fn write_content(out: &mut VecWriter, props: &Option<PropPart>, text: &Option<Text>)
+    ensures { Adds out.old out.new (content_of props.now text.now) }
 {
-    out.write_all(b"\n")?;
-    write_block(out, props)?;
-    write_text(out, text)?;
-    out.write_all(b"\n\n")?;
-    Ok(())
+    out.write(b"\n");
+    write_block(out, props);
+    write_text(out, text);
+    out.write(b"\n\n");
 }

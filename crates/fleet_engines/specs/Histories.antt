@@ -1,13 +1,13 @@
 -- What a history is seen as.
-use Rattle.std.specs.Prelude.{◌≡◌, ◌++◌, ℕ, Bool, List, [], ◌∷◌, map, Option, Some, None, if◌then◌else◌}
+use Rattle.std.specs.Prelude.{◌≡◌, ◌++◌, ℕ, Bool, List, [], ◌∷◌, map, Option, Some, None, IfSome, true, if◌then◌else◌}
 use Rattle.std.specs.List.{flat_map}
 use Rattle.std.specs.Option.{option_map}
 use Rattle.byte_streams.specs.declared.output.Output.{Ghosts}
-use Rattle.byte_streams.specs.Memory.{written_in}
+use Rattle.byte_streams.specs.Memory.{written_in, IsWhole}
 use Rattle.byte_streams.specs.declared.vec_writer.VecWriter.{VecWriter}
-use Rattle.std.specs.Io.KnownBytes.{Appends}
 use Rattle.node_base.specs.Tree.{PathMap}
 use Rattle.node_base.specs.declared.refusal.Refusal.{Refusal}
+use Rattle.dump_text.specs.Written.{are_whole}
 use Rattle.dump_text.specs.declared.record.DumpRecord.{DumpRecord}
 use Rattle.dump_load.specs.declared.change.Change.{Change}
 use Rattle.dump_text.specs.declared.record.RevRecord.{RevRecord}
@@ -63,9 +63,13 @@ closed_text closed = flat_map canon_of (revs_of closed)
 abbrev pub due_text : Bool → History → Option RevRecord → List ℕ
 due_text is_due history closed = beginning_text is_due history ++ closed_text closed
 
--- memory holds these bytes more
-abbrev pub HoldsMore : VecWriter → VecWriter → List ℕ → Type 0
-HoldsMore old new bytes = Appends (Some (written_in old)) (Some (written_in new)) bytes
+-- a writer to memory holds these bytes, if memory was refused in no write
+abbrev pub Holds : VecWriter → List ℕ → Type 0
+Holds writer bytes = IsWhole writer → written_in writer ≡ bytes
+
+-- no node of the revision that is whole, if there is one, gives its properties as a delta
+abbrev pub IsWritable : Option RevRecord → Type 0
+IsWritable closed = IfSome closed (λ r. are_whole r.nodes.items ≡ true)
 
 -- a record more is told to a history, and what is due is written
 abbrev pub TakesNext : {O : Type 0} → Ghosts O → Product → History → O → DumpRecord → History → O → Type 0

@@ -1,7 +1,7 @@
 //! What `list` and `canon` make of a dump, record by record.
 ghost use Rattle.std.specs.Prelude.{◌≡◌, ◌&&◌, Some, IfOk, IfErr, OnOk, not, if◌then◌else◌};
-ghost use Rattle.byte_streams.specs.Memory.{written_in};
-ghost use Rattle.fleet_engines.specs.Histories.{beginning_text, closed_text, due_text, held, told_of, HoldsMore};
+ghost use Rattle.byte_streams.specs.Memory.{Adds, IsWhole};
+ghost use Rattle.fleet_engines.specs.Histories.{beginning_text, closed_text, due_text, held, told_of, Holds, IsWritable};
 ghost use Rattle.fleet_engines.specs.Histories.{RefusesEnd, RefusesNext, TakesEnd, TakesNext};
 ghost use Rattle.fleet_engines.specs.Runs.{has_begun, CantEnd, EndsWith, RefusesOne, TakesOne};
 ghost use Rattle.fleet_engines.specs.Streams.{TellsFailure, Writes, WritesNone};
@@ -46,33 +46,22 @@ fn begins(had_begun: bool, history: &History) -> bool
 }
 
 // Adds the head and revision 0, where they are due.
-fn push_beginning(is_due: bool, history: &History, bytes: &mut VecWriter) -> Result<(), AllocError>
-    ensures { OnOk result (HoldsMore bytes.old bytes.new (beginning_text is_due history.now)) }
+fn push_beginning(is_due: bool, history: &History, bytes: &mut VecWriter)
+    ensures { Adds bytes.old bytes.new (beginning_text is_due history.now) }
 {
-    if !is_due {
-        return Ok(());
+    if is_due {
+        write_head(bytes, history.uuid());
+        write_props_entry(bytes, RevNo::ZERO, history.zero());
     }
-    if write_head(bytes, history.uuid()).is_err() {
-        return Err(AllocError);
-    }
-    if write_props_entry(bytes, RevNo::ZERO, history.zero()).is_err() {
-        return Err(AllocError);
-    }
-    Ok(())
 }
 
 // Adds the revision that is whole, if there is one.
-fn push_closed(closed: &Option<RevRecord>, bytes: &mut VecWriter) -> Result<(), AllocError>
-    ensures { OnOk result (HoldsMore bytes.old bytes.new (closed_text closed.now)) }
+fn push_closed(closed: &Option<RevRecord>, bytes: &mut VecWriter)
+    requires { IsWritable closed.now }
+    ensures { Adds bytes.old bytes.new (closed_text closed.now) }
 {
-    match closed {
-        Some(revision) => {
-            if write_revision(bytes, revision).is_err() {
-                return Err(AllocError);
-            }
-            Ok(())
-        }
-        None => Ok(()),
+    if let Some(revision) = closed {
+        write_revision(bytes, revision).unwrap();
     }
 }
 
@@ -86,20 +75,16 @@ fn room_for(closed: &Option<RevRecord>) -> usize {
 
 // Makes the bytes those that are due: the head and revision 0, or not, and then the revision that is whole, if there
 // is one.
-fn make_due(
-    is_due: bool,
-    history: &History,
-    closed: &Option<RevRecord>,
-    bytes: &mut VecWriter,
-) -> Result<(), AllocError>
-    ensures { OnOk result (written_in bytes.new ≡ due_text is_due history.now closed.now) }
+fn make_due(is_due: bool, history: &History, closed: &Option<RevRecord>, bytes: &mut VecWriter)
+    requires { IsWritable closed.now }
+    ensures { Holds bytes.new (due_text is_due history.now closed.now) }
 {
-    bytes.restart(room_for(closed))?;
-    push_beginning(is_due, history, bytes)?;
-    push_closed(closed, bytes)
+    bytes.restart(room_for(closed));
+    push_beginning(is_due, history, bytes);
+    push_closed(closed, bytes);
 }
 
-// Writes what is due. It is made whole before: where memory runs out nothing of it is written.
+// Writes what is due. It is made whole before: where memory runs out in that, and only there, nothing of it is written.
 fn write_due<O: Output>(
     is_due: bool,
     history: &History,
@@ -107,12 +92,15 @@ fn write_due<O: Output>(
     bytes: &mut VecWriter,
     output: &mut O,
 ) -> Result<(), Refusal>
+    requires { IsWritable closed.now }
     ensures ok { OnOk result (Writes O.contents output.old output.new (due_text is_due history.now closed.now)) }
     ensures refused { IfErr result (WritesNone O.Output output.old output.new) }
     ensures peer { TellsFailure O.failures output.old output.new result }
+    ensures memory { IfErr result (λ e. e ≡ Refusal.OutOfMemory → ¬ IsWhole bytes.new) }
 {
-    match make_due(is_due, history, closed, bytes) {
-        Ok(()) => write(output, bytes.as_slice()),
+    make_due(is_due, history, closed, bytes);
+    match bytes.as_slice() {
+        Ok(due) => write(output, due),
         Err(_) => Err(Refusal::OutOfMemory),
     }
 }

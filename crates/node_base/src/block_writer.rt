@@ -1,33 +1,32 @@
 //! Writing property blocks.
-ghost use Rattle.std.specs.Prelude.{◌≡◌, ◌≤◌, length, OnOk};
-ghost use Rattle.std.specs.Io.KnownBytes.{Appends};
+ghost use Rattle.std.specs.Prelude.{◌≡◌, ◌≤◌, length};
 ghost use Rattle.std.specs.Fmt.{decimal};
+ghost use Rattle.byte_streams.specs.Memory.{Adds};
 ghost use Rattle.node_base.specs.BlockCanon.{counted, canon_property, canon_block};
 ghost use Rattle.node_base.specs.declared.limits.TheConstants.{PROP_VALUE_BYTES};
 
 use crate::{PropName, PropValue, Props};
+use byte_streams::VecWriter;
 use itoa::Buffer;
-use std::io;
-use std::io::Write;
 
 // Writes the count of some bytes behind a letter and a blank, and the bytes, each line with its LF.
-fn write_counted<W: Write>(out: &mut W, letter: &[u8], bytes: &[u8]) -> io::Result<()>
-    ensures { OnOk result (Appends (W.contents out.old) (W.contents out.new) (counted letter.now bytes.now)) }
+fn write_counted(out: &mut VecWriter, letter: &[u8], bytes: &[u8])
+    ensures { Adds out.old out.new (counted letter.now bytes.now) }
 {
     let mut digits = Buffer::new();
-    out.write_all(letter)?;
-    out.write_all(digits.format(bytes.len()).as_bytes())?;
-    out.write_all(b"\n")?;
-    out.write_all(bytes)?;
-    out.write_all(b"\n")
+    out.write(letter);
+    out.write(digits.format(bytes.len()).as_bytes());
+    out.write(b"\n");
+    out.write(bytes);
+    out.write(b"\n");
 }
 
 // Writes a property.
-fn write_property<W: Write>(out: &mut W, name: &PropName, value: &PropValue) -> io::Result<()>
-    ensures { OnOk result (Appends (W.contents out.old) (W.contents out.new) (canon_property (name.now, value.now))) }
+fn write_property(out: &mut VecWriter, name: &PropName, value: &PropValue)
+    ensures { Adds out.old out.new (canon_property (name.now, value.now)) }
 {
-    write_counted(out, b"K ", name.as_bytes())?;
-    write_counted(out, b"V ", value.as_slice())
+    write_counted(out, b"K ", name.as_bytes());
+    write_counted(out, b"V ", value.as_slice());
 }
 
 // How many digits a number has.
@@ -68,12 +67,12 @@ impl Props {
     }
 
     /// Writes the properties as a property block: in the byte order of the names, counts without leading zeros.
-    pub fn write_block<W: Write>(&self, out: &mut W) -> io::Result<()>
-        ensures { OnOk result (Appends (W.contents out.old) (W.contents out.new) (canon_block self.now)) }
+    pub fn write_block(&self, out: &mut VecWriter)
+        ensures { Adds out.old out.new (canon_block self.now) }
     {
         for (name, value) in self.entries() {
-            write_property(out, name, value)?;
+            write_property(out, name, value);
         }
-        out.write_all(b"PROPS-END\n")
+        out.write(b"PROPS-END\n");
     }
 }

@@ -1,6 +1,7 @@
 //! Property blocks against spellings from outside.
 
 use crate::checked::{add_end, add_lines, all_hold, none_is_wrong, put, with_byte};
+use byte_streams::VecWriter;
 use node_base::block_law::{
     block_pieces_join, blocks_are_read, blocks_are_written, reads_are_blocks,
 };
@@ -260,10 +261,9 @@ const WRITTEN: &[u8] =
 
 // Whether a map is written so.
 fn is_written(alloc: Global, props: &Props, bytes: &[u8]) -> bool {
-    let mut block = Vec::new(alloc);
-    props.write_block(&mut block).is_ok()
-        && block.as_slice() == bytes
-        && props.block_len() == bytes.len() as u64
+    let mut block = VecWriter::new(alloc);
+    props.write_block(&mut block);
+    block.as_slice() == Ok(bytes) && props.block_len() == bytes.len() as u64
 }
 
 #[test]

@@ -2,7 +2,10 @@
 
 use crate::checked::{joined, none_is_wrong};
 use crate::piece_tests::{answer, each_change_agrees, each_front_agrees, gives, takes};
-use dump_text::{DumpReader, DumpRecord, NodeRecord, PropPart, RevRecord, write_revision};
+use byte_streams::VecWriter;
+use dump_text::{
+    DumpReader, DumpRecord, NodeRecord, PropPart, RevRecord, WriteFault, write_revision,
+};
 use node_base::{PropDelta, PropName, Props, RevNo};
 use std::alloc::Global;
 use std::process::Abort;
@@ -120,8 +123,10 @@ fn revision_of(rt: &impl Abort, alloc: Global, node: NodeRecord) -> RevRecord {
 
 // Whether a revision is refused by the writer, with nothing written.
 fn is_unwritten(alloc: Global, revision: &RevRecord) -> bool {
-    let mut written = Vec::new(alloc);
-    !revision.is_whole() && write_revision(&mut written, revision).is_err() && written.is_empty()
+    let mut written = VecWriter::new(alloc);
+    !revision.is_whole()
+        && write_revision(&mut written, revision) == Err(WriteFault::PropDelta)
+        && written.as_slice() == Ok(b"".as_slice())
 }
 
 // Whether that of the dump's last record is.

@@ -3,6 +3,7 @@
 ghost use Rattle.std.specs.Prelude.{◌<◌};
 
 use crate::checked::all_hold;
+use byte_streams::VecWriter;
 use dump_text::{DumpReader, DumpRecord, NodeRecord, RevRecord, write_head, write_revision};
 use node_base::{Props, RevNo};
 use std::alloc::Global;
@@ -396,11 +397,11 @@ fn take(
     rt: &impl Abort,
     alloc: Global,
     record: DumpRecord,
-    written: &mut Vec<u8>,
+    written: &mut VecWriter,
     revisions: &mut Vec<RevRecord>,
 ) {
     match record {
-        DumpRecord::Identity(uuid) => write_head(written, Some(&uuid)).expect(rt, "memory"),
+        DumpRecord::Identity(uuid) => write_head(written, Some(&uuid)),
         DumpRecord::Revision(number, props) => begin(rt, alloc, revisions, number, props),
         DumpRecord::Node(node) => add_node(rt, revisions, node),
         DumpRecord::DeltaNode(_, _) => rt.panic("a text as a delta"),
@@ -418,15 +419,15 @@ fn records(rt: &impl Abort, alloc: Global) -> Vec<DumpRecord> {
 
 // The canonical dump, read and written again.
 fn written(rt: &impl Abort, alloc: Global) -> Vec<u8> {
-    let mut written = Vec::new(alloc);
+    let mut written = VecWriter::new(alloc);
     let mut revisions = Vec::new(alloc);
     for record in records(rt, alloc) {
         take(rt, alloc, record, &mut written, &mut revisions);
     }
     for revision in &revisions {
-        write_revision(&mut written, revision).expect(rt, "memory");
+        write_revision(&mut written, revision).expect(rt, "whole lists of properties");
     }
-    written
+    written.into_bytes().expect(rt, "memory")
 }
 
 #[test]

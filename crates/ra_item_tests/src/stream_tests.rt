@@ -87,6 +87,7 @@ fn failed_writes_are_counted(rt: HostRuntime) {
     assert!(rt; fails_once(&mut full));
     assert!(rt; write_bytes(&mut full, b"") == Ok(()) && full.flush() == Ok(()));
     assert!(rt; full.count_failures() == 1);
+    assert!(rt; full.into_inner().write(b"y").is_ok());
 }
 
 #[test]
@@ -97,18 +98,25 @@ fn memory_holds_back_until_a_flush(rt: HostRuntime) {
     assert!(rt; fails_once(&mut output) && output.bytes() == b"ab".as_slice());
 }
 
-// What a writer to memory has after both kinds of writes.
-fn is_appended(mut out: VecWriter, bytes: &[u8]) -> bool {
-    let taken = out.write(b"hel").is_ok() && out.write_all(b"lo").is_ok() && out.flush().is_ok();
-    taken && out.as_slice() == bytes && out.into_bytes().as_slice() == bytes
+// Whether a writer to memory has these bytes, lent and given.
+fn has_written(out: VecWriter, bytes: &[u8]) -> bool {
+    let is_lent = out.as_slice() == Ok(bytes);
+    match out.into_bytes() {
+        Ok(given) => is_lent && given.as_slice() == bytes,
+        Err(_) => false,
+    }
 }
 
 #[test]
 fn each_write_to_memory_is_appended(rt: HostRuntime) {
-    assert!(rt; is_appended(VecWriter::new(rt.alloc()), b"hello"));
-    let mut out = VecWriter::with_room(rt.alloc(), 2).expect(&rt, "memory");
-    assert!(rt; out.write_all(b"x").is_ok() && out.restart(9).is_ok());
-    assert!(rt; is_appended(out, b"hello"));
+    let mut out = VecWriter::with_room(rt.alloc(), 2);
+    out.write(b"hel");
+    out.write(b"lo");
+    assert!(rt; out.as_slice() == Ok(b"hello".as_slice()));
+    out.restart(9);
+    out.write(b"x");
+    assert!(rt; has_written(out, b"x"));
+    assert!(rt; has_written(VecWriter::new(rt.alloc()), b""));
 }
 
 // Code that knows std's writers alone.

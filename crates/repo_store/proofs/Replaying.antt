@@ -5,7 +5,7 @@ use Rattle.std.specs.List.{flat_map}
 use Rattle.std.specs.Option.{option_map}
 use Rattle.node_base.specs.Props.{PropMap}
 use Rattle.dump_text.specs.Canon.{canon_entry, canon_node}
-use Rattle.dump_text.specs.Written.{AreFormed, AreRecords, is_whole_part, are_whole, read_node}
+use Rattle.dump_text.specs.Written.{AreFormed, AreRecords, is_whole_part, are_whole, map_of, read_node}
 use Rattle.dump_text.specs.declared.record.NodeRecord.{NodeRecord}
 use Rattle.dump_text.specs.declared.record.PropPart.{PropPart}
 use Rattle.dump_text.specs.declared.record.PropPart.TheVariants.{Whole, Delta}
@@ -13,7 +13,7 @@ use Rattle.dump_text.specs.declared.record.RevRecord.{RevRecord}
 use Rattle.dump_text.specs.declared.record.DumpRecord.TheVariants as told
 use Rattle.dump_load.specs.declared.change.Change.{Change}
 use Rattle.dump_load.specs.Bounds.{IsBounded}
-use Rattle.dump_load.specs.Records.{change_of, record_of, whole_props}
+use Rattle.dump_load.specs.Records.{change_of, record_of}
 use Rattle.repo_core.specs.Repository.{Repository, fresh}
 use Rattle.repo_core.specs.Entries.{with_entry_in}
 use Rattle.repo_core.specs.Refusals.{by_repository}
@@ -27,7 +27,7 @@ use Rattle.repo_store.specs.Journal.{IsBeginning, Spells, Takes}
 use Rattle.repo_store.specs.Readings.{IsRevisionOf}
 use Rattle.repo_store.proofs.Spelling.{formed_set}
 
-part_back : (p : Option PropPart) → is_whole_part p ≡ true → option_map Whole (option_map whole_props p) ≡ p
+part_back : (p : Option PropPart) → is_whole_part p ≡ true → option_map Whole (option_map map_of p) ≡ p
 part_back None w = refl
 part_back (Some (Whole m)) w = refl
 part_back (Some (Delta d)) w = cc

@@ -4,13 +4,12 @@ use Rattle.std.proofs.Common.{◌<◌, length-append, codes, Result, Ok, Err, If
 use Rattle.std.specs.Prelude.{Vec}
 use Rattle.std.specs.declared.alloc.Global.{Global}
 use Rattle.std.specs.List.{AllByRecursion, flat_map}
-use Rattle.std.specs.Result.{is_err}
 use Rattle.node_base.specs.Props.{PropMap}
 use Rattle.dump_text.specs.Canon.{canon_head, canon_entry, canon_node}
 use Rattle.dump_text.specs.Grammar.{Dump}
 use Rattle.dump_text.specs.Laws.{DumpsGoOn}
 use Rattle.dump_text.specs.Forms.{is_deletion, is_making}
-use Rattle.dump_text.specs.Written.{AreRecords, AreFormed, has_node_form, is_whole_part, read_identity, read_node}
+use Rattle.dump_text.specs.Written.{AreRecords, AreFormed, are_whole, has_node_form, is_whole_part, read_identity, read_node}
 use Rattle.dump_text.specs.declared.record.PropPart.TheVariants.{Whole}
 use Rattle.dump_text.specs.declared.record.NodeRecord.{NodeRecord}
 use Rattle.dump_text.specs.declared.record.DumpRecord.TheVariants as told
@@ -33,11 +32,6 @@ pub beginning_spelled : (law : DumpsGoOn) (identity : List ℕ) (props : PropMap
 beginning_spelled law identity props bytes head entry is =
     record { canonical = is; readable = subst (λ (b : List ℕ). Dump b (told.Identity identity ∷ told.Revision 0 props ∷ [])) (sym is) (law (canon_head (Some identity)) (canon_entry 0 props) (read_identity (Some identity)) (told.Revision 0 props ∷ []) head entry) }
 
--- what a call says of Ok holds where it wasn't refused
-pub held : {A E : Type 0} (r : Result A E) (P : Type 0) → is_err r ≡ false → OnOk r P → P
-held (Ok v) P fine h = h
-held (Err e) P fine h = cc
-
 -- dump text has the form of a change
 same_form : (a : Action) (source : Bool) (props : Option PropMap) (text : Bool)
     → ((source || is_making (Some a)) && not (is_deletion (Some a) && (is_some (option_map Whole props) || text))) ≡ ((source || (settles a && not (is_delete a))) && not (is_delete a && (is_some props || text)))
@@ -50,9 +44,18 @@ same_form Replace source props text = refl
 form_of : (c : Change) → has_form c ≡ true → has_node_form (record_of c) ≡ true
 form_of c h = same_form c.action (is_none c.source) c.props (is_some c.text) ∙ h
 
+both : (a b : Bool) → a ≡ true → b ≡ true → (a && b) ≡ true
+both true b p q = q
+both false b p q = p
+
 whole_part : (o : Option PropMap) → is_whole_part (option_map Whole o) ≡ true
 whole_part None = refl
 whole_part (Some p) = refl
+
+-- the records of a set give no properties as a delta
+pub whole_records : (s : List Change) → are_whole (map record_of s) ≡ true
+whole_records [] = refl
+whole_records (c ∷ s) = both (is_whole_part (record_of c).props) (are_whole (map record_of s)) (whole_part c.props) (whole_records s)
 
 -- so may what a set keeps by its type be written
 formed : (s : List Change) → IsNormal s → AllByRecursion IsSmall s → AreFormed (map record_of s)
@@ -66,7 +69,7 @@ formed_set set h = formed set h.set.0 h.small
 pub spelled_if : {E : Type 0} (r : Result (Vec ℕ Global) E) (n : ℕ) (set : List Change) (props ps : PropMap) (nodes : List NodeRecord)
     → nodes ≡ map record_of set → ps ≡ props → IsBounded set
     → IfOk r (λ v. v.items ≡ canon_entry n ps ++ flat_map canon_node nodes)
-    → OnOk r (AreFormed nodes → AreRecords (canon_entry n ps ++ flat_map canon_node nodes) (told.Revision n ps ∷ map read_node nodes))
+    → (AreFormed nodes → AreRecords (canon_entry n ps ++ flat_map canon_node nodes) (told.Revision n ps ∷ map read_node nodes))
     → IfOk r (λ v. Spells v.items (Revised n set props))
 spelled_if (Ok v) n set props ps nodes same one h a b =
     let formed = subst (λ (l : List NodeRecord). AreFormed l) (sym same) (formed_set set h) in

@@ -5,13 +5,14 @@ use Rattle.std.proofs.lemmas.List.{length-map}
 use Rattle.node_base.specs.Props.{PropMap}
 use Rattle.dump_text.specs.Canon.{told_kind}
 use Rattle.dump_text.specs.Laws.{DumpsAreRead}
+use Rattle.dump_text.specs.Written.{map_of}
 use Rattle.dump_text.specs.declared.record.NodeRecord.{NodeRecord}
 use Rattle.dump_text.specs.declared.record.PropPart.TheVariants.{Whole}
 use Rattle.dump_text.specs.declared.record.RevRecord.{RevRecord}
 use Rattle.dump_load.specs.declared.change.Change.{Change}
 use Rattle.dump_load.specs.Changes.{IsSet}
 use Rattle.dump_load.specs.Faults.{fault, refused}
-use Rattle.dump_load.specs.Records.{change_of, record_of, whole_props}
+use Rattle.dump_load.specs.Records.{change_of, record_of}
 use Rattle.node_base.specs.declared.fault.TreeFault.{TreeFault}
 use Rattle.repo_core.specs.Repository.{Revision, trees_of}
 use Rattle.repo_core.specs.Refusals.{by_repository}
@@ -24,7 +25,7 @@ use Rattle.repo_store.specs.Readings.{IsRevisionOf}
 use Rattle.repo_store.proofs.Reading.{told_of, revision_is}
 use Rattle.repo_store.proofs.Told.{told, none_left, none_right, or_none, fault_told, normal_told}
 
-props_back : (o : Option PropMap) → option_map whole_props (option_map Whole o) ≡ o
+props_back : (o : Option PropMap) → option_map map_of (option_map Whole o) ≡ o
 props_back None = refl
 props_back (Some p) = refl
 

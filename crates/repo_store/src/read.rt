@@ -177,11 +177,10 @@ fn is_canonical(
     if !revision.is_whole() {
         return Ok(false);
     }
-    written.restart(bytes.len())?;
-    if write_revision(written, revision).is_err() {
-        return Err(AllocError);
-    }
-    Ok(written.as_slice() == bytes)
+    written.restart(bytes.len());
+    write_revision(written, revision).unwrap();
+    let again = written.as_slice()?;
+    Ok(again == bytes)
 }
 
 /// The revision that an entry's bytes spell, its nodes in their order. What they are compared with is written to

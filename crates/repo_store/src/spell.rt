@@ -1,7 +1,7 @@
 //! How entries are written.
-ghost use Rattle.std.specs.Prelude.{◌≡◌, ◌∷◌, ◌++◌, [], IfOk, OnOk, None};
+ghost use Rattle.std.specs.Prelude.{◌≡◌, ◌∷◌, ◌++◌, [], IfOk, OnOk, None, true};
 ghost use Rattle.dump_text.specs.Canon.{canon_entry, canon_revision};
-ghost use Rattle.dump_text.specs.Written.{AreRecords};
+ghost use Rattle.dump_text.specs.Written.{are_whole, AreRecords};
 ghost use Rattle.dump_text.specs.declared.record.DumpRecord.TheVariants as told;
 ghost use Rattle.repo_core.specs.declared.entry.Entry.TheVariants.{Revised, Mapped};
 ghost use Rattle.repo_store.specs.Journal.{spelling, HasSet, Spells, IsBeginning};
@@ -40,14 +40,10 @@ pub fn beginning(alloc: Global, identity: &Uuid, props: &Props) -> Result<Vec<u8
     ensures { IfOk result (λ v. IsBeginning v.items identity.now props.now) }
 {
     dumps_go_on();
-    let mut out = VecWriter::with_room(alloc, room_of(props))?;
-    if write_head(&mut out, Some(identity)).is_err() {
-        return Err(AllocError);
-    }
-    if write_props_entry(&mut out, RevNo::ZERO, props).is_err() {
-        return Err(AllocError);
-    }
-    Ok(out.into_bytes())
+    let mut out = VecWriter::with_room(alloc, room_of(props));
+    write_head(&mut out, Some(identity));
+    write_props_entry(&mut out, RevNo::ZERO, props);
+    out.into_bytes()
 }
 
 // The entry of a revision's other properties.
@@ -55,23 +51,20 @@ fn map_bytes(alloc: Global, number: RevNo, props: &Props) -> Result<Vec<u8>, All
     ensures canonical { IfOk result (λ v. v.items ≡ canon_entry number props.now) }
     ensures readable { OnOk result (AreRecords (canon_entry number props.now) (told.Revision number props.now ∷ [])) }
 {
-    let mut out = VecWriter::with_room(alloc, room_of(props))?;
-    if write_props_entry(&mut out, number, props).is_err() {
-        return Err(AllocError);
-    }
-    Ok(out.into_bytes())
+    let mut out = VecWriter::with_room(alloc, room_of(props));
+    write_props_entry(&mut out, number, props);
+    out.into_bytes()
 }
 
-// The canonical spelling of a revision.
+// The canonical spelling of a revision whose property lists are whole.
 fn text_of(alloc: Global, revision: &RevRecord) -> Result<Vec<u8>, AllocError>
+    requires whole { are_whole revision.now.nodes.items ≡ true }
     ensures canonical { IfOk result (λ v. v.items ≡ canon_revision revision.now) }
-    ensures readable { OnOk result (IsReadable revision.now) }
+    ensures readable { IsReadable revision.now }
 {
-    let mut out = VecWriter::with_room(alloc, revision.room())?;
-    if write_revision(&mut out, revision).is_err() {
-        return Err(AllocError);
-    }
-    Ok(out.into_bytes())
+    let mut out = VecWriter::with_room(alloc, revision.room());
+    write_revision(&mut out, revision).unwrap();
+    out.into_bytes()
 }
 
 /// The entry of a new revision, or of one as it is now.

@@ -5,6 +5,5 @@ use Rattle.dump_text.proofs.Writes.{join}
 use Rattle.dump_text.proofs.writer.write_head.Goals as goal
 
 pub returns-clause-bytes : goal.returns-clause-bytes
-returns-clause-bytes g c =
-    let w = g.W.Write.contents in
-    join (w c.args.out.now) (w c.write_all.new.self) (w c.write_identity.new.out) (codes "SVN-fs-dump-format-version: 2" ++ 10 ∷ 10 ∷ []) (canon_identity (now_of c.args.uuid)) c.in_ok-write_all.ensures.bytes c.in_ok-write_identity.ensures.bytes
+returns-clause-bytes c =
+    join c.args.out.now c.write.new.self c.write_identity.new.out (codes "SVN-fs-dump-format-version: 2" ++ 10 ∷ 10 ∷ []) (canon_identity (now_of c.args.uuid)) c.write.ensures c.write_identity.ensures.bytes

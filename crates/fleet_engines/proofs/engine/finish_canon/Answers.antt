@@ -4,7 +4,11 @@ use Rattle.std.proofs.lemmas.Result.{on_ok_weaker, IfErr-weaker}
 use Rattle.fleet_engines.specs.Histories.{revs_of, told_of}
 use Rattle.fleet_engines.specs.Runs.{canon_of, has_begun, head_of}
 use Rattle.fleet_engines.proofs.Due.{due_written}
+use Rattle.fleet_engines.proofs.Plain.{closed_writable}
 use Rattle.fleet_engines.proofs.engine.finish_canon.Goals as goal
+
+pub write_due-requires : goal.write_due-requires
+write_due-requires g c = closed_writable (told_of c.args.history.now) (told_of c.close.new.self) c.in_ok-closed.closed c.in_ok-closed.ensures.closed
 
 pub returns-clause-ok : goal.returns-clause-ok
 returns-clause-ok g c =

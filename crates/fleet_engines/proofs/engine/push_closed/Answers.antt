@@ -1,11 +1,10 @@
-use Rattle.std.proofs.Common.{◌≡◌, ◌++◌, ◌∙◌, ap, rules}
+use Rattle.std.proofs.Common.{subst, OnOk}
+use Rattle.byte_streams.specs.Memory.{Adds}
 use Rattle.dump_text.specs.Canon.{canon_revision}
 use Rattle.fleet_engines.proofs.Plain.{spelled_back}
 use Rattle.fleet_engines.proofs.engine.push_closed.Goals as goal
 
-pub returns-else-is_err : goal.returns-else-is_err
-returns-else-is_err c =
-    let r = c.in-Some.revision in
-    let before = c.args.bytes.now.bytes.items in
-    let written : c.write_revision.new.out.bytes.items ≡ before ++ canon_revision r = search rules in
-    written ∙ ap (λ l. before ++ l) (spelled_back c.args.closed.now r c.in-Some.is)
+pub returns-in-Some : goal.returns-in-Some
+returns-in-Some c =
+    let added = subst (λ r. OnOk r (Adds c.args.bytes.now c.write_revision.new.out (canon_revision c.in-Some.revision))) c.unwrap.ensures c.write_revision.ensures.bytes in
+    subst (λ l. Adds c.args.bytes.now c.write_revision.new.out l) (spelled_back c.args.closed.now c.in-Some.revision c.in-Some.is) added

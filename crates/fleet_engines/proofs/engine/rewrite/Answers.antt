@@ -6,7 +6,11 @@ use Rattle.fleet_engines.specs.Histories.{revs_of, told_of}
 use Rattle.fleet_engines.specs.Runs.{canon_of, has_begun, head_of}
 use Rattle.fleet_engines.proofs.Due.{due_written}
 use Rattle.fleet_engines.proofs.Makers.{took}
+use Rattle.fleet_engines.proofs.Plain.{taken_writable}
 use Rattle.fleet_engines.proofs.engine.rewrite.Goals as goal
+
+pub write_due-requires : goal.write_due-requires
+write_due-requires g c = taken_writable (told_of c.args.history.now) (told_of c.take.new.self) c.args.next c.in_ok-closed.closed c.in_ok-closed.ensures.taken
 
 pub returns-in_err-closed-clause-refused : goal.returns-in_err-closed-clause-refused
 returns-in_err-closed-clause-refused g c =
