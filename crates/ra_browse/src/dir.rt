@@ -9,7 +9,7 @@ ghost use Rattle.ra_browse.specs.Answers.{entry_of, entry_with};
 ghost use Rattle.ra_browse.specs.Seeking.{FindsEntry};
 ghost use Rattle.ra_browse.specs.Tellings.{made_as, place_as, AreEntries, Finds, PortStays};
 ghost use Rattle.ra_browse.specs.Writing.{TellsBytes, Replies, dir_item, dir_seen};
-ghost use Rattle.ra_log.specs.Writing.{WritesItem, WritesItems};
+ghost use Rattle.ra_item.specs.Writing.{WritesItem, WritesItems};
 
 use crate::denial::Denial;
 use crate::file::Wanted;

@@ -9,7 +9,7 @@ ghost use Rattle.browse_wire.specs.Asks.{Plain};
 ghost use Rattle.ra_browse.specs.Answers.{file_found};
 ghost use Rattle.ra_browse.specs.Tellings.{place_as, PortStays};
 ghost use Rattle.ra_browse.specs.Writing.{TellsBytes, Replies, seen_props, file_item, file_body, file_seen};
-ghost use Rattle.ra_log.specs.Writing.{Writes, WritesItem};
+ghost use Rattle.ra_item.specs.Writing.{Writes, WritesItem};
 
 use crate::denial::Denial;
 use crate::look::{Seen, see};

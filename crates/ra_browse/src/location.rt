@@ -11,7 +11,7 @@ ghost use Rattle.ra_browse.specs.Answers.{no_revision, stood_denied};
 ghost use Rattle.ra_browse.specs.Seeking.{FindsUpTo, StandsAt, SeeksPlaces, WithSets};
 ghost use Rattle.ra_browse.specs.Tellings.{place_as, Denies, Finds, PortStays, IsSought, TellsLocations};
 ghost use Rattle.ra_browse.specs.Writing.{TellsBytes, Replies, ended};
-ghost use Rattle.ra_log.specs.Writing.{Writes};
+ghost use Rattle.ra_item.specs.Writing.{Writes};
 
 use crate::denial::Denial;
 use crate::stop::{Stop, stopped};

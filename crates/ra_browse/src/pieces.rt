@@ -9,7 +9,7 @@ ghost use Rattle.uuid.specs.Text.{hyphenated_text, lower};
 ghost use Rattle.ra_wire.specs.Replies.{property, properties};
 ghost use Rattle.ra_browse.specs.Answers.{perhaps};
 ghost use Rattle.ra_browse.specs.Writing.{added_props, node_props};
-ghost use Rattle.ra_log.specs.Writing.{WritesItem, WritesItems};
+ghost use Rattle.ra_item.specs.Writing.{WritesItem, WritesItems};
 
 use crate::made::Made;
 use itoa::Buffer;

@@ -10,7 +10,7 @@ ghost use Rattle.ra_browse.specs.Denials.{denied};
 ghost use Rattle.browse_wire.specs.Told.{end_item};
 ghost use Rattle.ra_browse.specs.Tellings.{TellsBehind, TellsStop};
 ghost use Rattle.ra_browse.specs.Writing.{TellsBytes, cause_item};
-ghost use Rattle.ra_log.specs.Writing.{WritesItem};
+ghost use Rattle.ra_item.specs.Writing.{WritesItem};
 
 use crate::denial::Denial;
 use crate::stop::Stop;

@@ -1,7 +1,8 @@
--- Parts of a command's bytes, and what a writer is given.
-use Rattle.std.specs.Prelude.{ℕ, List, [], ◌∷◌, ◌++◌, map, Option, Result, OnOk}
-use Rattle.std.specs.Io.KnownBytes.{Appends}
-use Rattle.ra_item.specs.Items.{Item, Text, row, spell, spell_all}
+-- Parts of a command's bytes, and a command that a writer is given.
+use Rattle.std.specs.Prelude.{ℕ, List, [], ◌∷◌, ◌++◌, map, Result}
+use Rattle.std.specs.declared.io.Write.{Ghosts}
+use Rattle.ra_item.specs.Items.{Item, Text, row, spell_all}
+use Rattle.ra_item.specs.Writing.{WritesItem}
 use Rattle.ra_edit.specs.Commands.{command, token, chunk}
 use Rattle.ra_edit.specs.Names.{word_of}
 use Rattle.ra_edit.specs.declared.name.Name.{Name}
@@ -18,14 +19,6 @@ behind_params = 41 ∷ 32 ∷ 41 ∷ 32 ∷ []
 abbrev pub chunks : ℕ → List (List ℕ) → List ℕ
 chunks file parts = spell_all (row (map (λ part. chunk (Text (token file)) (window part)) parts))
 
--- where it answers Ok, these bytes were written behind what the writer had
-abbrev pub Writes : {W T E : Type 0} → (W → Option (List ℕ)) → W → W → List ℕ → Result T E → Type 0
-Writes contents old new bytes result = OnOk result (Appends (contents old) (contents new) bytes)
-
--- this item was
-abbrev pub WritesItem : {W T E : Type 0} → (W → Option (List ℕ)) → W → W → Item → Result T E → Type 0
-WritesItem contents old new item result = Writes contents old new (spell item) result
-
--- a command of this name was, with these parameters
-abbrev pub WritesCommand : {W T E : Type 0} → (W → Option (List ℕ)) → W → W → Name → List Item → Result T E → Type 0
-WritesCommand contents old new name params result = WritesItem contents old new (command (word_of name) params) result
+-- where it answers Ok, a command of this name is behind what the writer had, with these parameters
+abbrev pub WritesCommand : {W T E : Type 0} → Ghosts W → W → W → Name → List Item → Result T E → Type 0
+WritesCommand G old new name params result = WritesItem G old new (command (word_of name) params) result

@@ -13,7 +13,8 @@ ghost use Rattle.ra_edit.specs.Names.{word_of};
 ghost use Rattle.ra_edit.specs.declared.name.Name.TheVariants as word;
 ghost use Rattle.ra_edit.specs.Commands.{list, command, revision, string, source, sum_text, token, chunk, parts};
 ghost use Rattle.svndiff.specs.Spelling.{head, window};
-ghost use Rattle.ra_edit.specs.Written.{before_params, behind_params, chunks, Writes, WritesItem, WritesCommand};
+ghost use Rattle.ra_item.specs.Writing.{Writes, WritesItem};
+ghost use Rattle.ra_edit.specs.Written.{before_params, behind_params, chunks, WritesCommand};
 
 use crate::name::Name;
 use node_base::{NodePath, RevNo, Source};
@@ -24,7 +25,7 @@ use svndiff::writer::{PIECE, window_size, write_window};
 
 /// What stands in front of a command's parameters.
 fn write_name<W: Write>(out: &mut W, name: Name) -> io::Result<()>
-    ensures { Writes W.contents out.old out.new (before_params (word_of name)) result }
+    ensures { Writes W.Write out.old out.new (before_params (word_of name)) result }
 {
     write_open(out)?;
     write_word(out, name.word().as_bytes())?;
@@ -33,7 +34,7 @@ fn write_name<W: Write>(out: &mut W, name: Name) -> io::Result<()>
 
 /// What stands behind a command's parameters.
 fn write_end<W: Write>(out: &mut W) -> io::Result<()>
-    ensures { Writes W.contents out.old out.new behind_params result }
+    ensures { Writes W.Write out.old out.new behind_params result }
 {
     write_close(out)?;
     write_close(out)
@@ -49,7 +50,7 @@ fn digit_count(n: u64) -> u32
 
 /// A token.
 fn write_token<W: Write>(out: &mut W, n: u64) -> io::Result<()>
-    ensures { WritesItem W.contents out.old out.new (Text (token n)) result }
+    ensures { WritesItem W.Write out.old out.new (Text (token n)) result }
 {
     let len = digit_count(n) + 1;
     write!(out, "{len}:t{n} ")
@@ -57,7 +58,7 @@ fn write_token<W: Write>(out: &mut W, n: u64) -> io::Result<()>
 
 /// A path.
 fn write_path<W: Write>(out: &mut W, path: &NodePath) -> io::Result<()>
-    ensures { WritesItem W.contents out.old out.new (Text (path_text path.now)) result }
+    ensures { WritesItem W.Write out.old out.new (Text (path_text path.now)) result }
 {
     let len = path.text_len();
     write!(out, "{len}:{path} ")
@@ -65,7 +66,7 @@ fn write_path<W: Write>(out: &mut W, path: &NodePath) -> io::Result<()>
 
 /// A revision that may be missing.
 fn write_revision<W: Write>(out: &mut W, base: Option<RevNo>) -> io::Result<()>
-    ensures { WritesItem W.contents out.old out.new (revision base) result }
+    ensures { WritesItem W.Write out.old out.new (revision base) result }
 {
     match base {
         Some(base) => {
@@ -78,7 +79,7 @@ fn write_revision<W: Write>(out: &mut W, base: Option<RevNo>) -> io::Result<()>
 
 /// A string that may be missing.
 fn write_string<W: Write>(out: &mut W, value: Option<&[u8]>) -> io::Result<()>
-    ensures { WritesItem W.contents out.old out.new (string (option_copied value.entry)) result }
+    ensures { WritesItem W.Write out.old out.new (string (option_copied value.entry)) result }
 {
     match value {
         Some(value) => {
@@ -92,7 +93,7 @@ fn write_string<W: Write>(out: &mut W, value: Option<&[u8]>) -> io::Result<()>
 
 /// Where a copy comes from.
 fn write_source<W: Write>(out: &mut W, from: Option<&Source>) -> io::Result<()>
-    ensures { WritesItem W.contents out.old out.new (source (option_copied from.entry)) result }
+    ensures { WritesItem W.Write out.old out.new (source (option_copied from.entry)) result }
 {
     match from {
         Some(from) => {
@@ -117,7 +118,7 @@ fn hex_of(sum: [u8; 16]) -> [u8; 32]
 
 /// A sum that may be missing.
 fn write_sum<W: Write>(out: &mut W, sum: Option<[u8; 16]>) -> io::Result<()>
-    ensures { WritesItem W.contents out.old out.new (string (sum_text sum)) result }
+    ensures { WritesItem W.Write out.old out.new (string (sum_text sum)) result }
 {
     match sum {
         Some(sum) => {
@@ -130,7 +131,7 @@ fn write_sum<W: Write>(out: &mut W, sum: Option<[u8; 16]>) -> io::Result<()>
 
 /// A command that says a number: the revision that is shown.
 pub fn write_numbered<W: Write>(out: &mut W, name: Name, number: u16) -> io::Result<()>
-    ensures { WritesCommand W.contents out.old out.new name (Number number ∷ []) result }
+    ensures { WritesCommand W.Write out.old out.new name (Number number ∷ []) result }
 {
     write_name(out, name)?;
     write_number(out, u64::from(number))?;
@@ -144,7 +145,7 @@ pub fn write_open_root<W: Write>(
     base: Option<RevNo>,
     child: u64,
 ) -> io::Result<()>
-    ensures { WritesCommand W.contents out.old out.new name (revision base ∷ Text (token child) ∷ []) result }
+    ensures { WritesCommand W.Write out.old out.new name (revision base ∷ Text (token child) ∷ []) result }
 {
     write_name(out, name)?;
     write_revision(out, base)?;
@@ -161,7 +162,7 @@ pub fn write_add<W: Write>(
     child: u64,
     from: Option<&Source>,
 ) -> io::Result<()>
-    ensures { WritesCommand W.contents out.old out.new name
+    ensures { WritesCommand W.Write out.old out.new name
         (Text (path_text path.now) ∷ Text (token up) ∷ Text (token child) ∷ source (option_copied from.entry) ∷ [])
         result }
 {
@@ -182,7 +183,7 @@ pub fn write_open_node<W: Write>(
     child: u64,
     base: Option<RevNo>,
 ) -> io::Result<()>
-    ensures { WritesCommand W.contents out.old out.new name
+    ensures { WritesCommand W.Write out.old out.new name
         (Text (path_text path.now) ∷ Text (token up) ∷ Text (token child) ∷ revision base ∷ []) result }
 {
     write_name(out, name)?;
@@ -201,7 +202,7 @@ pub fn write_delete<W: Write>(
     base: Option<RevNo>,
     up: u64,
 ) -> io::Result<()>
-    ensures { WritesCommand W.contents out.old out.new name
+    ensures { WritesCommand W.Write out.old out.new name
         (Text (path_text path.now) ∷ revision base ∷ Text (token up) ∷ []) result }
 {
     write_name(out, name)?;
@@ -219,7 +220,7 @@ pub fn write_prop<W: Write>(
     prop: &[u8],
     value: Option<&[u8]>,
 ) -> io::Result<()>
-    ensures { WritesCommand W.contents out.old out.new name
+    ensures { WritesCommand W.Write out.old out.new name
         (Text (token at) ∷ Text prop.now ∷ string (option_copied value.entry) ∷ []) result }
 {
     write_name(out, name)?;
@@ -231,7 +232,7 @@ pub fn write_prop<W: Write>(
 
 /// A command that names a file and has empty brackets behind it.
 fn write_start<W: Write>(out: &mut W, name: Name, file: u64) -> io::Result<()>
-    ensures { WritesCommand W.contents out.old out.new name (Text (token file) ∷ list [] ∷ []) result }
+    ensures { WritesCommand W.Write out.old out.new name (Text (token file) ∷ list [] ∷ []) result }
 {
     write_name(out, name)?;
     write_token(out, file)?;
@@ -241,7 +242,7 @@ fn write_start<W: Write>(out: &mut W, name: Name, file: u64) -> io::Result<()>
 
 /// A chunk of these bytes.
 fn write_bytes<W: Write>(out: &mut W, name: Name, file: u64, bytes: &[u8]) -> io::Result<()>
-    ensures { WritesCommand W.contents out.old out.new name (Text (token file) ∷ Text bytes.now ∷ []) result }
+    ensures { WritesCommand W.Write out.old out.new name (Text (token file) ∷ Text bytes.now ∷ []) result }
 {
     write_name(out, name)?;
     write_token(out, file)?;
@@ -251,7 +252,7 @@ fn write_bytes<W: Write>(out: &mut W, name: Name, file: u64, bytes: &[u8]) -> io
 
 /// A text begins: the command, and a chunk with the four bytes in front of all windows.
 pub fn write_text_start<W: Write>(out: &mut W, file: u64) -> io::Result<()>
-    ensures { Writes W.contents out.old out.new
+    ensures { Writes W.Write out.old out.new
         (spell (command (word_of word.ApplyTextdelta) (Text (token file) ∷ list [] ∷ []))
         ++ spell (chunk (Text (token file)) head)) result }
 {
@@ -262,7 +263,7 @@ pub fn write_text_start<W: Write>(out: &mut W, file: u64) -> io::Result<()>
 /// A window as a string, of at most 65,536 bytes of a text. `Err` where the writer failed.
 pub fn write_window_text<W: Write>(out: &mut W, bytes: &[u8]) -> io::Result<()>
     requires { length bytes.now ≤ 65536 }
-    ensures { WritesItem W.contents out.old out.new (Text (window bytes.now)) result }
+    ensures { WritesItem W.Write out.old out.new (Text (window bytes.now)) result }
 {
     let len = window_size(bytes.len() as u32);
     write!(out, "{len}:")?;
@@ -273,7 +274,7 @@ pub fn write_window_text<W: Write>(out: &mut W, bytes: &[u8]) -> io::Result<()>
 /// A window in a chunk of its own.
 fn write_chunk<W: Write>(out: &mut W, name: Name, file: u64, bytes: &[u8]) -> io::Result<()>
     requires { length bytes.now ≤ 65536 }
-    ensures { WritesCommand W.contents out.old out.new name (Text (token file) ∷ Text (window bytes.now) ∷ []) result }
+    ensures { WritesCommand W.Write out.old out.new name (Text (token file) ∷ Text (window bytes.now) ∷ []) result }
 {
     write_name(out, name)?;
     write_token(out, file)?;
@@ -283,7 +284,7 @@ fn write_chunk<W: Write>(out: &mut W, name: Name, file: u64, bytes: &[u8]) -> io
 
 /// A piece of a text, window by window.
 pub fn write_piece<W: Write>(out: &mut W, file: u64, piece: &[u8]) -> io::Result<()>
-    ensures { Writes W.contents out.old out.new (chunks file (parts piece.now)) result }
+    ensures { Writes W.Write out.old out.new (chunks file (parts piece.now)) result }
 {
     let mut rest = piece;
     while rest.len() > 0 {
@@ -296,7 +297,7 @@ pub fn write_piece<W: Write>(out: &mut W, file: u64, piece: &[u8]) -> io::Result
 
 /// A command that names what is open and says no more: a text ends, or a directory is closed.
 pub fn write_ended<W: Write>(out: &mut W, name: Name, at: u64) -> io::Result<()>
-    ensures { WritesCommand W.contents out.old out.new name (Text (token at) ∷ []) result }
+    ensures { WritesCommand W.Write out.old out.new name (Text (token at) ∷ []) result }
 {
     write_name(out, name)?;
     write_token(out, at)?;
@@ -310,7 +311,7 @@ pub fn write_close_file<W: Write>(
     file: u64,
     sum: Option<[u8; 16]>,
 ) -> io::Result<()>
-    ensures { WritesCommand W.contents out.old out.new name (Text (token file) ∷ string (sum_text sum) ∷ []) result }
+    ensures { WritesCommand W.Write out.old out.new name (Text (token file) ∷ string (sum_text sum) ∷ []) result }
 {
     write_name(out, name)?;
     write_token(out, file)?;
@@ -320,7 +321,7 @@ pub fn write_close_file<W: Write>(
 
 /// A command that says nothing more: the end of an edit.
 pub fn write_bare<W: Write>(out: &mut W, name: Name) -> io::Result<()>
-    ensures { WritesCommand W.contents out.old out.new name [] result }
+    ensures { WritesCommand W.Write out.old out.new name [] result }
 {
     write_name(out, name)?;
     write_end(out)

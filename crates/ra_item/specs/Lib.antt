@@ -13,3 +13,4 @@ pub mod Laws
 pub mod Rests
 pub mod ItemStreams
 pub mod Refusals
+pub mod Writing

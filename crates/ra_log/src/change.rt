@@ -5,7 +5,7 @@ ghost use Rattle.ra_item.specs.Items.{Word};
 ghost use Rattle.ra_wire.specs.Replies.{list};
 ghost use Rattle.ra_log.specs.Entries.{copied_from, kind_item, path_item, change_with};
 ghost use Rattle.ra_log.specs.Entries.{change_item, changes_told, changes_item};
-ghost use Rattle.ra_log.specs.Writing.{WritesItem, WritesItems};
+ghost use Rattle.ra_item.specs.Writing.{WritesItem, WritesItems};
 
 use crate::kind::kind_told;
 use browse_wire::pieces::write_absolute;

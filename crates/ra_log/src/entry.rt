@@ -3,7 +3,7 @@
 ghost use Rattle.std.specs.Option.{option_copied};
 ghost use Rattle.ra_log.specs.Entries.{log_as, entry_item, entry_bytes};
 ghost use Rattle.ra_log.specs.Rows.{entry_in, entries_in};
-ghost use Rattle.ra_log.specs.Writing.{Writes, WritesItem};
+ghost use Rattle.ra_item.specs.Writing.{Writes, WritesItem};
 
 use crate::change::write_changes;
 use crate::revprops::write_props;

@@ -10,7 +10,7 @@ ghost use Rattle.ra_wire.specs.Replies.{string, property, properties};
 ghost use Rattle.browse_wire.specs.Asks.{revprops_as};
 ghost use Rattle.ra_log.specs.Entries.{is_usual, wants, value_told, is_other, others_of, others_in};
 ghost use Rattle.ra_log.specs.Entries.{usual_told, others_told, revprops_told};
-ghost use Rattle.ra_log.specs.Writing.{WritesItem, WritesItems};
+ghost use Rattle.ra_item.specs.Writing.{WritesItem, WritesItems};
 
 use browse_wire::ask::RevpropsWanted;
 use node_base::{PropName, PropValue, Props};

@@ -7,7 +7,7 @@ ghost use Rattle.ra_log.specs.Rows.{head_in, versions_in};
 ghost use Rattle.ra_log.specs.Versions.{prop_item, had, gone_of, gone_told, given_of, given_told, props_told, head_told};
 ghost use Rattle.ra_log.specs.Versions.{windows_told, delta_told, is_same, text_told, text_behind, props_of, text_of};
 ghost use Rattle.ra_log.specs.Versions.{version_told};
-ghost use Rattle.ra_log.specs.Writing.{Writes, WritesItem};
+ghost use Rattle.ra_item.specs.Writing.{Writes, WritesItem};
 
 use crate::rows::LogRows;
 use browse_wire::pieces::write_absolute;

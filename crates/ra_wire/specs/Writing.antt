@@ -1,17 +1,10 @@
 -- What a writer is given.
-use Rattle.std.specs.Prelude.{ℕ, List, Option, Result, OnOk}
-use Rattle.std.specs.Io.KnownBytes.{Appends}
-use Rattle.ra_item.specs.Items.{Item, spell}
+use Rattle.std.specs.Prelude.{ℕ, List, Result}
+use Rattle.std.specs.declared.io.Write.{Ghosts}
+use Rattle.ra_item.specs.Items.{Item}
+use Rattle.ra_item.specs.Writing.{WritesItem}
 use Rattle.ra_wire.specs.Replies.{answer_of}
 
--- where it answers Ok, these bytes were written behind what the writer had
-abbrev pub Writes : {W T E : Type 0} → (W → Option (List ℕ)) → W → W → List ℕ → Result T E → Type 0
-Writes contents old new bytes result = OnOk result (Appends (contents old) (contents new) bytes)
-
--- this item was
-abbrev pub WritesItem : {W T E : Type 0} → (W → Option (List ℕ)) → W → W → Item → Result T E → Type 0
-WritesItem contents old new item result = Writes contents old new (spell item) result
-
--- an answer or a command of this name was, with these items in its brackets
-abbrev pub WritesNamed : {W T E : Type 0} → (W → Option (List ℕ)) → W → W → List ℕ → List Item → Result T E → Type 0
-WritesNamed contents old new name items result = WritesItem contents old new (answer_of name items) result
+-- where it answers Ok, an answer or a command of this name is behind what the writer had, with these items in its brackets
+abbrev pub WritesNamed : {W T E : Type 0} → Ghosts W → W → W → List ℕ → List Item → Result T E → Type 0
+WritesNamed G old new name items result = WritesItem G old new (answer_of name items) result

@@ -9,7 +9,8 @@ ghost use Rattle.node_base.specs.PathText.{path_text};
 ghost use Rattle.ra_wire.specs.Commands.{command_as, previous_as, truth_word};
 ghost use Rattle.ra_wire.specs.Replies.{list, string, number_or_none};
 ghost use Rattle.ra_wire.specs.Requests.{replacing, hello, anonymous, command_item};
-ghost use Rattle.ra_wire.specs.Writing.{WritesItem, WritesNamed};
+ghost use Rattle.ra_item.specs.Writing.{WritesItem};
+ghost use Rattle.ra_wire.specs.Writing.{WritesNamed};
 
 use crate::command::{Command, Previous};
 use crate::pieces::{
@@ -23,7 +24,7 @@ use std::io::Write;
 
 // A version, a capability and a URL.
 fn write_version<W: Write>(out: &mut W, capability: &[u8], url: &[u8]) -> io::Result<()>
-    ensures { WritesItem W.contents out.old out.new
+    ensures { WritesItem W.Write out.old out.new
         (list (Number 2 ∷ list (Word capability.now ∷ []) ∷ Text url.now ∷ [])) result }
 {
     write_open(out)?;
@@ -35,14 +36,14 @@ fn write_version<W: Write>(out: &mut W, capability: &[u8], url: &[u8]) -> io::Re
 
 /// The client's greeting: version 2, its only capability, and the URL that it asks for.
 pub fn write_hello<W: Write>(out: &mut W, url: &[u8]) -> io::Result<()>
-    ensures { WritesItem W.contents out.old out.new (hello url.now) result }
+    ensures { WritesItem W.Write out.old out.new (hello url.now) result }
 {
     write_version(out, b"edit-pipeline", url)
 }
 
 // A mechanism and a token.
 fn write_token<W: Write>(out: &mut W, mechanism: &[u8], token: &[u8]) -> io::Result<()>
-    ensures { WritesItem W.contents out.old out.new
+    ensures { WritesItem W.Write out.old out.new
         (list (Word mechanism.now ∷ list (Text token.now ∷ []) ∷ [])) result }
 {
     write_open(out)?;
@@ -55,14 +56,14 @@ fn write_token<W: Write>(out: &mut W, mechanism: &[u8], token: &[u8]) -> io::Res
 
 /// Says that the client is nobody.
 pub fn write_anonymous<W: Write>(out: &mut W) -> io::Result<()>
-    ensures { WritesItem W.contents out.old out.new anonymous result }
+    ensures { WritesItem W.Write out.old out.new anonymous result }
 {
     write_token(out, b"ANONYMOUS", b"")
 }
 
 // A command without parameters.
 fn write_bare<W: Write>(out: &mut W, name: &[u8]) -> io::Result<()>
-    ensures { WritesNamed W.contents out.old out.new name.now [] result }
+    ensures { WritesNamed W.Write out.old out.new name.now [] result }
 {
     write_name(out, name)?;
     write_end(out)
@@ -70,7 +71,7 @@ fn write_bare<W: Write>(out: &mut W, name: &[u8]) -> io::Result<()>
 
 // A command of a path and a revision.
 fn write_at<W: Write>(out: &mut W, name: &[u8], path: &NodePath, n: Option<u64>) -> io::Result<()>
-    ensures { WritesNamed W.contents out.old out.new name.now
+    ensures { WritesNamed W.Write out.old out.new name.now
         (Text (path_text path.now) ∷ number_or_none n ∷ []) result }
 {
     write_name(out, name)?;
@@ -88,7 +89,7 @@ fn write_look<W: Write>(
     props: bool,
     contents: bool,
 ) -> io::Result<()>
-    ensures { WritesNamed W.contents out.old out.new name.now
+    ensures { WritesNamed W.Write out.old out.new name.now
         (Text (path_text path.now) ∷ number_or_none n ∷ Word (truth_word props) ∷ Word (truth_word contents) ∷ [])
         result }
 {
@@ -102,7 +103,7 @@ fn write_look<W: Write>(
 
 // A command of a revision.
 fn write_numbered<W: Write>(out: &mut W, name: &[u8], n: u64) -> io::Result<()>
-    ensures { WritesNamed W.contents out.old out.new name.now (Number n ∷ []) result }
+    ensures { WritesNamed W.Write out.old out.new name.now (Number n ∷ []) result }
 {
     write_name(out, name)?;
     write_number(out, n)?;
@@ -111,7 +112,7 @@ fn write_numbered<W: Write>(out: &mut W, name: &[u8], n: u64) -> io::Result<()>
 
 // A command of a revision and a property's name.
 fn write_property_of<W: Write>(out: &mut W, name: &[u8], n: u64, prop: &[u8]) -> io::Result<()>
-    ensures { WritesNamed W.contents out.old out.new name.now (Number n ∷ Text prop.now ∷ []) result }
+    ensures { WritesNamed W.Write out.old out.new name.now (Number n ∷ Text prop.now ∷ []) result }
 {
     write_name(out, name)?;
     write_number(out, n)?;
@@ -121,7 +122,7 @@ fn write_property_of<W: Write>(out: &mut W, name: &[u8], n: u64, prop: &[u8]) ->
 
 // What a change replaces.
 fn write_replacing<W: Write>(out: &mut W, old: &Previous) -> io::Result<()>
-    ensures { WritesItem W.contents out.old out.new (replacing (previous_as old.now)) result }
+    ensures { WritesItem W.Write out.old out.new (replacing (previous_as old.now)) result }
 {
     write_open(out)?;
     match old {
@@ -144,7 +145,7 @@ fn write_change<W: Write>(
     value: &Option<Vec<u8>>,
     old: &Previous,
 ) -> io::Result<()>
-    ensures { WritesNamed W.contents out.old out.new name.now
+    ensures { WritesNamed W.Write out.old out.new name.now
         (Number n ∷ Text prop.now ∷ string (option_map (λ v. v.items) value.now) ∷ replacing (previous_as old.now) ∷ [])
         result }
 {
@@ -158,7 +159,7 @@ fn write_change<W: Write>(
 
 // A replay of one revision, against revision 0 and with texts.
 fn write_replay<W: Write>(out: &mut W, name: &[u8], n: u64) -> io::Result<()>
-    ensures { WritesNamed W.contents out.old out.new name.now
+    ensures { WritesNamed W.Write out.old out.new name.now
         (Number n ∷ Number 0 ∷ Word (truth_word true) ∷ []) result }
 {
     write_name(out, name)?;
@@ -170,7 +171,7 @@ fn write_replay<W: Write>(out: &mut W, name: &[u8], n: u64) -> io::Result<()>
 
 // The same of several revisions.
 fn write_range<W: Write>(out: &mut W, name: &[u8], start: u64, end: u64) -> io::Result<()>
-    ensures { WritesNamed W.contents out.old out.new name.now
+    ensures { WritesNamed W.Write out.old out.new name.now
         (Number start ∷ Number end ∷ Number 0 ∷ Word (truth_word true) ∷ []) result }
 {
     write_name(out, name)?;
@@ -183,7 +184,7 @@ fn write_range<W: Write>(out: &mut W, name: &[u8], start: u64, end: u64) -> io::
 
 /// A command. A change of a property is written as `change-rev-prop2`.
 pub fn write_command<W: Write>(out: &mut W, command: &Command) -> io::Result<()>
-    ensures { WritesItem W.contents out.old out.new (command_item (command_as command.now)) result }
+    ensures { WritesItem W.Write out.old out.new (command_item (command_as command.now)) result }
 {
     match command {
         Command::LatestRev => write_bare(out, b"get-latest-rev"),

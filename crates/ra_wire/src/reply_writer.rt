@@ -12,7 +12,8 @@ ghost use Rattle.ra_wire.specs.Replies.{dirent, wanted_props, file_found, dir_fo
 ghost use Rattle.ra_wire.specs.Answers.{dirent_as};
 ghost use Rattle.ra_wire.specs.Commands.{truth_word};
 ghost use Rattle.std.specs.List.{flat_map};
-ghost use Rattle.ra_wire.specs.Writing.{Writes, WritesItem, WritesNamed};
+ghost use Rattle.ra_item.specs.Writing.{Writes, WritesItem};
+ghost use Rattle.ra_wire.specs.Writing.{WritesNamed};
 
 use crate::dirent::Dirent;
 use crate::pieces::{
@@ -31,7 +32,7 @@ pub fn write_versions<W: Write>(
     first: &[u8],
     second: &[u8],
 ) -> io::Result<()>
-    ensures { WritesNamed W.contents out.old out.new name.now
+    ensures { WritesNamed W.Write out.old out.new name.now
         (Number 2 ∷ Number 2 ∷ list [] ∷ list (Word first.now ∷ Word second.now ∷ []) ∷ []) result }
 {
     write_name(out, name)?;
@@ -44,14 +45,14 @@ pub fn write_versions<W: Write>(
 
 /// The server's greeting: version 2 and its capabilities.
 pub fn write_greeting<W: Write>(out: &mut W) -> io::Result<()>
-    ensures { WritesItem W.contents out.old out.new greeting result }
+    ensures { WritesItem W.Write out.old out.new greeting result }
 {
     write_versions(out, b"success", b"edit-pipeline", b"atomic-revprops")
 }
 
 // A way and a realm.
 fn write_way<W: Write>(out: &mut W, name: &[u8], way: &[u8], realm: &[u8]) -> io::Result<()>
-    ensures { WritesNamed W.contents out.old out.new name.now (list (Word way.now ∷ []) ∷ Text realm.now ∷ []) result }
+    ensures { WritesNamed W.Write out.old out.new name.now (list (Word way.now ∷ []) ∷ Text realm.now ∷ []) result }
 {
     write_name(out, name)?;
     write_one(out, way)?;
@@ -61,14 +62,14 @@ fn write_way<W: Write>(out: &mut W, name: &[u8], way: &[u8], realm: &[u8]) -> io
 
 /// The way in which a client may say who it is, and the realm.
 pub fn write_mechanisms<W: Write>(out: &mut W, realm: &[u8]) -> io::Result<()>
-    ensures { WritesItem W.contents out.old out.new (mechanisms realm.now) result }
+    ensures { WritesItem W.Write out.old out.new (mechanisms realm.now) result }
 {
     write_way(out, b"success", b"ANONYMOUS", realm)
 }
 
 // A text as an answer.
 fn write_texted<W: Write>(out: &mut W, name: &[u8], text: &[u8]) -> io::Result<()>
-    ensures { WritesNamed W.contents out.old out.new name.now (Text text.now ∷ []) result }
+    ensures { WritesNamed W.Write out.old out.new name.now (Text text.now ∷ []) result }
 {
     write_name(out, name)?;
     write_text(out, text)?;
@@ -77,14 +78,14 @@ fn write_texted<W: Write>(out: &mut W, name: &[u8], text: &[u8]) -> io::Result<(
 
 /// The answer to another way.
 pub fn write_only_anonymous<W: Write>(out: &mut W) -> io::Result<()>
-    ensures { WritesItem W.contents out.old out.new only_anonymous result }
+    ensures { WritesItem W.Write out.old out.new only_anonymous result }
 {
     write_texted(out, b"failure", b"only ANONYMOUS")
 }
 
 // Two texts and empty brackets.
 fn write_texts<W: Write>(out: &mut W, name: &[u8], first: &[u8], second: &[u8]) -> io::Result<()>
-    ensures { WritesNamed W.contents out.old out.new name.now (Text first.now ∷ Text second.now ∷ list [] ∷ []) result }
+    ensures { WritesNamed W.Write out.old out.new name.now (Text first.now ∷ Text second.now ∷ list [] ∷ []) result }
 {
     write_name(out, name)?;
     write_text(out, first)?;
@@ -95,14 +96,14 @@ fn write_texts<W: Write>(out: &mut W, name: &[u8], first: &[u8], second: &[u8]) 
 
 /// The end of an opening: the repository's identity and URL.
 pub fn write_welcome<W: Write>(out: &mut W, identity: &[u8], url: &[u8]) -> io::Result<()>
-    ensures { WritesItem W.contents out.old out.new (welcome identity.now url.now) result }
+    ensures { WritesItem W.Write out.old out.new (welcome identity.now url.now) result }
 {
     write_texts(out, b"success", identity, url)
 }
 
 // Empty brackets and a text.
 fn write_asking<W: Write>(out: &mut W, name: &[u8], text: &[u8]) -> io::Result<()>
-    ensures { WritesNamed W.contents out.old out.new name.now (list [] ∷ Text text.now ∷ []) result }
+    ensures { WritesNamed W.Write out.old out.new name.now (list [] ∷ Text text.now ∷ []) result }
 {
     write_name(out, name)?;
     write_none(out)?;
@@ -112,14 +113,14 @@ fn write_asking<W: Write>(out: &mut W, name: &[u8], text: &[u8]) -> io::Result<(
 
 /// What stands before the answer to a command.
 pub fn write_authorised<W: Write>(out: &mut W) -> io::Result<()>
-    ensures { WritesItem W.contents out.old out.new authorised result }
+    ensures { WritesItem W.Write out.old out.new authorised result }
 {
     write_asking(out, b"success", b"")
 }
 
 /// An answer without content.
 pub fn write_done<W: Write>(out: &mut W) -> io::Result<()>
-    ensures { WritesItem W.contents out.old out.new done result }
+    ensures { WritesItem W.Write out.old out.new done result }
 {
     write_name(out, b"success")?;
     write_end(out)
@@ -127,7 +128,7 @@ pub fn write_done<W: Write>(out: &mut W) -> io::Result<()>
 
 // One refusal.
 fn write_fault<W: Write>(out: &mut W, n: u8, text: &[u8]) -> io::Result<()>
-    ensures { WritesItem W.contents out.old out.new (list (Number n ∷ Text text.now ∷ Text [] ∷ Number 0 ∷ [])) result }
+    ensures { WritesItem W.Write out.old out.new (list (Number n ∷ Text text.now ∷ Text [] ∷ Number 0 ∷ [])) result }
 {
     write_open(out)?;
     write_number(out, u64::from(n))?;
@@ -139,7 +140,7 @@ fn write_fault<W: Write>(out: &mut W, n: u8, text: &[u8]) -> io::Result<()>
 
 // The same with the answer's name.
 fn write_refused<W: Write>(out: &mut W, name: &[u8], n: u8, text: &[u8]) -> io::Result<()>
-    ensures { WritesNamed W.contents out.old out.new name.now
+    ensures { WritesNamed W.Write out.old out.new name.now
         (list (Number n ∷ Text text.now ∷ Text [] ∷ Number 0 ∷ []) ∷ []) result }
 {
     write_name(out, name)?;
@@ -149,14 +150,14 @@ fn write_refused<W: Write>(out: &mut W, name: &[u8], n: u8, text: &[u8]) -> io::
 
 /// A refusal, by its number and text.
 pub fn write_failure<W: Write>(out: &mut W, n: u8, text: &[u8]) -> io::Result<()>
-    ensures { WritesItem W.contents out.old out.new (failure n text.now) result }
+    ensures { WritesItem W.Write out.old out.new (failure n text.now) result }
 {
     write_refused(out, b"failure", n, text)
 }
 
 // A number with the answer's name.
 fn write_numbered<W: Write>(out: &mut W, name: &[u8], n: u64) -> io::Result<()>
-    ensures { WritesNamed W.contents out.old out.new name.now (Number n ∷ []) result }
+    ensures { WritesNamed W.Write out.old out.new name.now (Number n ∷ []) result }
 {
     write_name(out, name)?;
     write_number(out, n)?;
@@ -165,14 +166,14 @@ fn write_numbered<W: Write>(out: &mut W, name: &[u8], n: u64) -> io::Result<()>
 
 /// A number as an answer.
 pub fn write_latest<W: Write>(out: &mut W, n: RevNo) -> io::Result<()>
-    ensures { WritesItem W.contents out.old out.new (number n) result }
+    ensures { WritesItem W.Write out.old out.new (number n) result }
 {
     write_numbered(out, b"success", u64::from(n.get()))
 }
 
 // A word with the answer's name.
 fn write_worded<W: Write>(out: &mut W, name: &[u8], word: &[u8]) -> io::Result<()>
-    ensures { WritesNamed W.contents out.old out.new name.now (Word word.now ∷ []) result }
+    ensures { WritesNamed W.Write out.old out.new name.now (Word word.now ∷ []) result }
 {
     write_name(out, name)?;
     write_word(out, word)?;
@@ -181,7 +182,7 @@ fn write_worded<W: Write>(out: &mut W, name: &[u8], word: &[u8]) -> io::Result<(
 
 /// What stands at a path.
 pub fn write_kind<W: Write>(out: &mut W, kind: Option<NodeKind>) -> io::Result<()>
-    ensures { WritesItem W.contents out.old out.new (kind_is kind) result }
+    ensures { WritesItem W.Write out.old out.new (kind_is kind) result }
 {
     match kind {
         None => write_worded(out, b"success", b"none"),
@@ -192,7 +193,7 @@ pub fn write_kind<W: Write>(out: &mut W, kind: Option<NodeKind>) -> io::Result<(
 
 // The same with the answer's name.
 fn write_found<W: Write>(out: &mut W, name: &[u8], found: Option<&[u8]>) -> io::Result<()>
-    ensures { WritesNamed W.contents out.old out.new name.now (string (option_copied found.entry) ∷ []) result }
+    ensures { WritesNamed W.Write out.old out.new name.now (string (option_copied found.entry) ∷ []) result }
 {
     write_name(out, name)?;
     write_string(out, found)?;
@@ -201,14 +202,14 @@ fn write_found<W: Write>(out: &mut W, name: &[u8], found: Option<&[u8]>) -> io::
 
 /// The value of one property, or none.
 pub fn write_value<W: Write>(out: &mut W, found: Option<&[u8]>) -> io::Result<()>
-    ensures { WritesItem W.contents out.old out.new (value (option_copied found.entry)) result }
+    ensures { WritesItem W.Write out.old out.new (value (option_copied found.entry)) result }
 {
     write_found(out, b"success", found)
 }
 
 // The same with the answer's name.
 fn write_all_named<W: Write>(out: &mut W, name: &[u8], props: &Props) -> io::Result<()>
-    ensures { WritesNamed W.contents out.old out.new name.now (properties (finite.entries props.now) ∷ []) result }
+    ensures { WritesNamed W.Write out.old out.new name.now (properties (finite.entries props.now) ∷ []) result }
 {
     write_name(out, name)?;
     write_properties(out, props)?;
@@ -217,14 +218,14 @@ fn write_all_named<W: Write>(out: &mut W, name: &[u8], props: &Props) -> io::Res
 
 /// All properties of a revision as an answer.
 pub fn write_proplist<W: Write>(out: &mut W, props: &Props) -> io::Result<()>
-    ensures { WritesItem W.contents out.old out.new (proplist props.now) result }
+    ensures { WritesItem W.Write out.old out.new (proplist props.now) result }
 {
     write_all_named(out, b"success", props)
 }
 
 // Properties behind a name.
 fn write_behind<W: Write>(out: &mut W, name: &[u8], props: &Props) -> io::Result<()>
-    ensures { WritesItem W.contents out.old out.new
+    ensures { WritesItem W.Write out.old out.new
         (list (Word name.now ∷ properties (finite.entries props.now) ∷ [])) result }
 {
     write_open(out)?;
@@ -235,14 +236,14 @@ fn write_behind<W: Write>(out: &mut W, name: &[u8], props: &Props) -> io::Result
 
 /// All properties of a revision in front of its edit.
 pub fn write_revprops<W: Write>(out: &mut W, props: &Props) -> io::Result<()>
-    ensures { WritesItem W.contents out.old out.new (revprops props.now) result }
+    ensures { WritesItem W.Write out.old out.new (revprops props.now) result }
 {
     write_behind(out, b"revprops", props)
 }
 
 /// Properties where they are wanted, and empty brackets where they aren't.
 pub fn write_wanted<W: Write>(out: &mut W, props: &Props, wanted: bool) -> io::Result<()>
-    ensures { WritesItem W.contents out.old out.new (wanted_props wanted props.now) result }
+    ensures { WritesItem W.Write out.old out.new (wanted_props wanted props.now) result }
 {
     if wanted {
         write_properties(out, props)
@@ -253,7 +254,7 @@ pub fn write_wanted<W: Write>(out: &mut W, props: &Props, wanted: bool) -> io::R
 
 // A name of a file or a directory.
 fn write_node_name<W: Write>(out: &mut W, name: &NodeName) -> io::Result<()>
-    ensures { WritesItem W.contents out.old out.new (Text name.now) result }
+    ensures { WritesItem W.Write out.old out.new (Text name.now) result }
 {
     let text = name.as_str();
     write_text(out, text.as_bytes())
@@ -267,7 +268,7 @@ fn write_rest<W: Write>(
     date: &Option<Vec<u8>>,
     author: &Option<Vec<u8>>,
 ) -> io::Result<()>
-    ensures { Writes W.contents out.old out.new
+    ensures { Writes W.Write out.old out.new
         (spell_all (row (Word (truth_word has_props) ∷ Number created ∷ string (option_map (λ t. t.items) date.now)
         ∷ string (option_map (λ t. t.items) author.now) ∷ []))) result }
 {
@@ -279,7 +280,7 @@ fn write_rest<W: Write>(
 
 /// An entry of a directory.
 pub fn write_dirent<W: Write>(out: &mut W, entry: &Dirent) -> io::Result<()>
-    ensures { WritesItem W.contents out.old out.new (dirent (dirent_as entry.now)) result }
+    ensures { WritesItem W.Write out.old out.new (dirent (dirent_as entry.now)) result }
 {
     write_open(out)?;
     write_node_name(out, &entry.name)?;
@@ -297,7 +298,7 @@ pub fn write_dirent<W: Write>(out: &mut W, entry: &Dirent) -> io::Result<()>
 
 // Entries one after another.
 fn write_dirents<W: Write>(out: &mut W, entries: &[Dirent]) -> io::Result<()>
-    ensures { Writes W.contents out.old out.new (spell_all (row (map dirent (map dirent_as entries.now)))) result }
+    ensures { Writes W.Write out.old out.new (spell_all (row (map dirent (map dirent_as entries.now)))) result }
 {
     for entry in entries {
         write_dirent(out, entry)?;
@@ -307,7 +308,7 @@ fn write_dirents<W: Write>(out: &mut W, entries: &[Dirent]) -> io::Result<()>
 
 // Entries in brackets.
 fn write_entries<W: Write>(out: &mut W, entries: &[Dirent]) -> io::Result<()>
-    ensures { WritesItem W.contents out.old out.new (list (map dirent (map dirent_as entries.now))) result }
+    ensures { WritesItem W.Write out.old out.new (list (map dirent (map dirent_as entries.now))) result }
 {
     write_open(out)?;
     write_dirents(out, entries)?;
@@ -323,7 +324,7 @@ fn write_file_named<W: Write>(
     props: &Props,
     wanted: bool,
 ) -> io::Result<()>
-    ensures { WritesNamed W.contents out.old out.new name.now
+    ensures { WritesNamed W.Write out.old out.new name.now
         (list (Text sum.now ∷ []) ∷ Number n ∷ wanted_props wanted props.now ∷ []) result }
 {
     write_name(out, name)?;
@@ -344,7 +345,7 @@ pub fn write_file<W: Write>(
     props: &Props,
     wanted: bool,
 ) -> io::Result<()>
-    ensures { WritesItem W.contents out.old out.new (file_found sum.now n wanted props.now) result }
+    ensures { WritesItem W.Write out.old out.new (file_found sum.now n wanted props.now) result }
 {
     write_file_named(out, b"success", sum, n, props, wanted)
 }
@@ -358,7 +359,7 @@ fn write_dir_named<W: Write>(
     wanted: bool,
     entries: &[Dirent],
 ) -> io::Result<()>
-    ensures { WritesNamed W.contents out.old out.new name.now
+    ensures { WritesNamed W.Write out.old out.new name.now
         (Number n ∷ wanted_props wanted props.now ∷ list (map dirent (map dirent_as entries.now)) ∷ []) result }
 {
     write_name(out, name)?;
@@ -376,7 +377,7 @@ pub fn write_dir<W: Write>(
     wanted: bool,
     entries: &[Dirent],
 ) -> io::Result<()>
-    ensures { WritesItem W.contents out.old out.new (dir_found n wanted props.now (map dirent_as entries.now)) result }
+    ensures { WritesItem W.Write out.old out.new (dir_found n wanted props.now (map dirent_as entries.now)) result }
 {
     write_dir_named(out, b"success", n, props, wanted, entries)
 }

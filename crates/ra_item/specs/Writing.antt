@@ -1,4 +1,4 @@
--- What a call writes.
+-- What a writer is given.
 use Rattle.std.specs.Prelude.{ℕ, List, OnOk, Result}
 use Rattle.std.specs.Io.KnownBytes.{Appends}
 use Rattle.std.specs.declared.io.Write.{Ghosts}
