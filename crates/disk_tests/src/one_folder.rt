@@ -126,7 +126,8 @@ impl<D: Disk + Drop> FolderCalls for OneFolder<D> {
 
     ghost is_held = { λ file. ⊤ };
 
-    ghost has_bytes = { λ file. ⊤ };
+    // It says of no file that it has bytes.
+    ghost has_bytes = { λ file. ⊥ };
 
     ghost is_new = { λ file. ⊤ };
 
@@ -149,7 +150,7 @@ impl<D: Disk + Drop> FolderCalls for OneFolder<D> {
     }
 
     fn is_empty(&mut self, _file: &OneFile) -> Result<bool, FolderFault> {
-        Ok(false)
+        Ok(true)
     }
 
     fn make_folder(&mut self, _folder: &str) -> Result<bool, FolderFault> {

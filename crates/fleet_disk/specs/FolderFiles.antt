@@ -1,5 +1,6 @@
 -- The files of a folder that are open.
-use Rattle.std.specs.Prelude.{◌⊎◌, ◌++◌, ℕ, List, Option, Some, None, codes, IsSome, IsNone, IfSome, IsSomeAnd}
+use Rattle.std.specs.Prelude.{◌≡◌, ◌≢◌, ◌⊎◌, ◌++◌, ℕ, List, [], Option, Some, None, codes, IsSome, IsNone, IfSome, IsSomeAnd}
+use Rattle.fleet_disk.specs.Image.{Image, no_bytes}
 use Rattle.fleet_disk.specs.declared.disk.DiskFile.{DiskFile}
 use Rattle.fleet_disk.specs.declared.disk.DiskFile.TheVariants.{Journal, Gate, Slots}
 use Rattle.fleet_disk.specs.declared.folder_files.FolderFiles.{FolderFiles}
@@ -42,3 +43,8 @@ pub record AreAll {F : Type 0} (p : F → Type 0) (files : FolderFiles F) : Type
   pub journal : IfSome files.journal p
   pub gate : IfSome files.gate p
   pub slots : IfSome files.slots p
+
+-- a disk over these files reads as they are: it isn't empty where one of them has bytes, and has an empty journal or gate where one of these two isn't there
+pub record Shows {F : Type 0} (has_bytes : F → Type 0) (files : FolderFiles F) (image : Image) : Type 0 where
+  pub full : HasBytes has_bytes files → image ≢ no_bytes
+  pub lacking : LacksEntries files → (image.journal ≡ []) ⊎ (image.gate ≡ [])

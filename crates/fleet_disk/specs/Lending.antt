@@ -1,7 +1,8 @@
 -- What a folder has for a disk, what it lends, and what a call of a host leaves of that.
-use Rattle.std.specs.Prelude.{◌≡◌, ◌≢◌, ◌≤◌, ℕ, List, Result, IfErr}
+use Rattle.std.specs.Prelude.{◌≡◌, ◌≢◌, ◌≤◌, ℕ, List, Result, IfErr, OnErr}
 use Rattle.fleet_disk.specs.FolderFiles.{path_in}
 use Rattle.fleet_disk.specs.Image.{no_bytes}
+use Rattle.fleet_disk.specs.Lasting.{KeepsNames, KeepsOthers}
 use Rattle.fleet_disk.specs.Rules.{LeavesOnly, Only, Rose, Within}
 use Rattle.fleet_disk.specs.declared.disk.Disk.{Ghosts}
 use Rattle.fleet_disk.specs.declared.disk.DiskFile.{DiskFile}
@@ -67,3 +68,32 @@ IsCounted before now e = e ≡ DeviceFailed → Rose before now
 -- and a call tells so of itself
 abbrev pub Counts : {C T : Type 0} → (C → ℕ) → C → C → Result T FolderFault → Type 0
 Counts failures old new result = IfErr result (IsCounted (failures old) (failures new))
+
+-- a call makes nothing: what isn't there stays away, a stop leaves what it left, what folders have for disks stays, and a failure is counted
+pub record MakesNone {C D T : Type 0} (honest : C → Type 0) (disk : C → List ℕ → FolderDisk D) (lacks lasts : C → List ℕ → Type 0) (failures : C → ℕ) (old new : C) (result : Result T FolderFault) : Type 0 where
+  pub nothing : MakesNothing lacks old new
+  pub names : KeepsNames lasts old new
+  pub spares : Spares honest disk failures old new
+  pub cause : Counts failures old new result
+
+-- the same of all but what is at one path then
+pub record MakesAt {C D T : Type 0} (honest : C → Type 0) (disk : C → List ℕ → FolderDisk D) (lacks lasts : C → List ℕ → Type 0) (failures : C → ℕ) (path : List ℕ) (old new : C) (result : Result T FolderFault) : Type 0 where
+  pub nothing_else : MakesOnly lacks path old new
+  pub names : KeepsOthers lasts path old new
+  pub spares : Spares honest disk failures old new
+  pub cause : Counts failures old new result
+
+-- a call that may lend a disk makes nothing, and where it is refused what folders have for disks stays
+pub record LendsOnly {C D T : Type 0} (honest : C → Type 0) (disk : C → List ℕ → FolderDisk D) (lacks lasts : C → List ℕ → Type 0) (failures : C → ℕ) (old new : C) (result : Result T FolderFault) : Type 0 where
+  pub nothing : MakesNothing lacks old new
+  pub names : KeepsNames lasts old new
+  pub same : OnErr result (Spares honest disk failures old new)
+  pub later : failures old ≤ failures new
+  pub cause : Counts failures old new result
+
+-- the disk of a folder that was lent is back, and what the other folders have stays
+pub record TakesBack {C D : Type 0} (rules : D → Type 0) (honest : C → Type 0) (disk : C → List ℕ → FolderDisk D) (failures : C → ℕ) (old new : C) (folder : List ℕ) (place : D) : Type 0 where
+  pub back : honest old → disk old folder ≡ Lent → disk new folder ≡ There place
+  pub others : honest old → disk old folder ≡ Lent → OthersStay folder (disk old) (disk new)
+  pub sound : honest old → rules place → honest new
+  pub later : failures old ≤ failures new

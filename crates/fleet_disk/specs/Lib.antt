@@ -2,6 +2,7 @@ pub mod Above
 pub mod Ahead
 pub mod Contents
 pub mod FolderFiles
+pub mod Folders
 pub mod Fused
 pub mod Host
 pub mod Image

@@ -1,5 +1,5 @@
 -- The rules of a disk: what each call does to what a read gives, and to what a stop may leave.
-use Rattle.std.specs.Prelude.{◌<◌, ◌≡◌, ◌⊎◌, ℕ, ◌+◌, ◌-◌, ◌≤◌, ◌^◌, min, max, List, ◌++◌, length, take, drop, Result, OnErr}
+use Rattle.std.specs.Prelude.{◌<◌, ◌≡◌, ◌⊎◌, ◌↔◌, ℕ, ◌+◌, ◌-◌, ◌≤◌, ◌^◌, min, max, List, ◌++◌, length, take, drop, Result, OnErr}
 use Rattle.fleet_disk.specs.declared.disk.DiskFile.{DiskFile}
 use Rattle.fleet_disk.specs.declared.disk.DiskFile.TheVariants.{Journal, Gate, Slots}
 use Rattle.fleet_disk.specs.declared.disk.DiskFault.{DiskFault}
@@ -77,3 +77,17 @@ Rose before now = (before < now) ⊎ (2 ^ 64 ≤ now + 1)
 pub record HasCause {T : Type 0} (before now : ℕ) (result : Result T DiskFault) : Type 0 where
   pub later : before ≤ now
   pub failed : OnErr result (Rose before now)
+
+-- A call that changes nothing: where the rules are kept, a read gives the same, a stop leaves nothing else, and time goes on. The rules stay kept or broken, and a refusal comes only where the failures rose.
+pub record Stays {D T : Type 0} (rules : D → Type 0) (image : D → Image) (may_leave : D → Image → Type 0) (clock : D → ℕ) (left_since : D → ℕ → Image → Type 0) (failures : D → ℕ) (old new : D) (result : Result T DiskFault) : Type 0 where
+  pub reads : rules old → image new ≡ image old
+  pub left : rules old → Within (may_leave new) (may_leave old)
+  pub time : GoesBy rules clock left_since may_leave old new
+  pub honest : rules old ↔ rules new
+  pub cause : HasCause (failures old) (failures new) result
+
+-- A call that changes a file: where the rules are kept, time goes on. The rules stay kept or broken, and a refusal comes only where the failures rose.
+pub record Goes {D T : Type 0} (rules : D → Type 0) (may_leave : D → Image → Type 0) (clock : D → ℕ) (left_since : D → ℕ → Image → Type 0) (failures : D → ℕ) (old new : D) (result : Result T DiskFault) : Type 0 where
+  pub time : GoesBy rules clock left_since may_leave old new
+  pub honest : rules old ↔ rules new
+  pub cause : HasCause (failures old) (failures new) result

@@ -1,9 +1,9 @@
 //! What was read of a file ahead of what was asked for.
-ghost use Rattle.std.specs.Prelude.{◌≡◌, ◌≤◌, ◌<◌, ◌+◌, ◌-◌, ◌↔◌, ℕ, List, length, take, IsTrue, IfOk, OnOk};
+ghost use Rattle.std.specs.Prelude.{◌≡◌, ◌≤◌, ◌<◌, ◌+◌, ◌-◌, ℕ, List, length, take, IsTrue, IfOk, OnOk};
 ghost use Rattle.fleet_disk.specs.Ahead.{IsAhead};
 ghost use Rattle.fleet_disk.specs.Image.{bytes_of};
-ghost use Rattle.fleet_disk.specs.Passing.{HostGoesOn};
-ghost use Rattle.fleet_disk.specs.Rules.{HasCause, IsRead, Within};
+ghost use Rattle.fleet_disk.specs.Passing.{HostStays};
+ghost use Rattle.fleet_disk.specs.Rules.{IsRead};
 
 use crate::calls::HostCalls;
 use crate::copy::copy_from;
@@ -86,11 +86,7 @@ fn look_ahead<H: HostCalls>(
     ensures to { OnOk result (at ≤ ahead.new.at + ahead.new.len) }
     ensures there { H.honest host.old → OnOk result (at < length (bytes_of file (H.reads host.old))
         → at < ahead.new.at + ahead.new.len) }
-    ensures reads { H.honest host.old → H.reads host.new ≡ H.reads host.old }
-    ensures left { H.honest host.old → Within (H.may_leave host.new) (H.may_leave host.old) }
-    ensures time { HostGoesOn H.HostCalls host.old host.new }
-    ensures honest { H.honest host.old ↔ H.honest host.new }
-    ensures cause { HasCause (H.failures host.old) (H.failures host.new) result }
+    ensures stays { HostStays H.HostCalls host.old host.new result }
 {
     if ahead.has(at) {
         return Ok(());
@@ -118,11 +114,7 @@ pub fn read_through<H: HostCalls>(
     ensures within { IfOk result (λ n. n ≤ length buf.old) }
     ensures bytes { H.honest host.old → IfOk result (λ n. IsRead
         (bytes_of file (H.reads host.old)) at n buf.old buf.new) }
-    ensures reads { H.honest host.old → H.reads host.new ≡ H.reads host.old }
-    ensures left { H.honest host.old → Within (H.may_leave host.new) (H.may_leave host.old) }
-    ensures time { HostGoesOn H.HostCalls host.old host.new }
-    ensures honest { H.honest host.old ↔ H.honest host.new }
-    ensures cause { HasCause (H.failures host.old) (H.failures host.new) result }
+    ensures stays { HostStays H.HostCalls host.old host.new result }
 {
     if buf.len() >= AHEAD_BYTES {
         return host.read_at(file, at, buf);

@@ -1,9 +1,9 @@
 //! What a host does with the three files of a folder.
-ghost use Rattle.std.specs.Prelude.{◌≡◌, ◌≤◌, ◌↔◌, ℕ, length, take, IfOk, OnOk};
+ghost use Rattle.std.specs.Prelude.{◌≡◌, ◌≤◌, ℕ, length, take, IfOk, OnOk};
 ghost use Rattle.fleet_disk.specs.Image.{Image, bytes_of};
 ghost use Rattle.fleet_disk.specs.Rests.{Rests};
-ghost use Rattle.fleet_disk.specs.Rules.{overwritten, IsRead, Torn, CutBack, OnFile, Follows, Within};
-ghost use Rattle.fleet_disk.specs.Rules.{GoesBy, HasCause};
+ghost use Rattle.fleet_disk.specs.Rules.{overwritten, IsRead, Torn, CutBack, OnFile, Follows};
+ghost use Rattle.fleet_disk.specs.Rules.{Goes, Stays};
 
 use crate::disk::{DiskFault, DiskFile};
 
@@ -36,20 +36,12 @@ pub trait HostCalls {
         ensures within { IfOk result (λ n. n ≤ length buf.old) }
         ensures bytes { honest self.old → IfOk result (λ n. IsRead
             (bytes_of file (reads self.old)) at n buf.old buf.new) }
-        ensures reads { honest self.old → reads self.new ≡ reads self.old }
-        ensures left { honest self.old → Within (may_leave self.new) (may_leave self.old) }
-        ensures time { GoesBy honest clock left_since may_leave self.old self.new }
-        ensures honest { honest self.old ↔ honest self.new }
-        ensures cause { HasCause (failures self.old) (failures self.new) result };
+        ensures stays { Stays honest reads may_leave clock left_since failures self.old self.new result };
 
     /// How many bytes a file has.
     fn length(&mut self, file: DiskFile) -> Result<u64, DiskFault>
         ensures bytes { honest self.old → IfOk result (λ n. n ≡ length (bytes_of file (reads self.old))) }
-        ensures reads { honest self.old → reads self.new ≡ reads self.old }
-        ensures left { honest self.old → Within (may_leave self.new) (may_leave self.old) }
-        ensures time { GoesBy honest clock left_since may_leave self.old self.new }
-        ensures honest { honest self.old ↔ honest self.new }
-        ensures cause { HasCause (failures self.old) (failures self.new) result };
+        ensures stays { Stays honest reads may_leave clock left_since failures self.old self.new result };
 
     /// Writes bytes over what is there, and past the end (`pwrite`, until all is written).
     fn write_all_at(&mut self, file: DiskFile, at: u64, bytes: &[u8]) -> Result<(), DiskFault>
@@ -58,9 +50,7 @@ pub trait HostCalls {
             new ≡ overwritten at bytes.now old) (reads self.old) (reads self.new)) }
         ensures left { honest self.old → Follows (OnFile file (Torn at (length bytes.now))) (may_leave self.old)
             (may_leave self.new) }
-        ensures time { GoesBy honest clock left_since may_leave self.old self.new }
-        ensures honest { honest self.old ↔ honest self.new }
-        ensures cause { HasCause (failures self.old) (failures self.new) result };
+        ensures goes { Goes honest may_leave clock left_since failures self.old self.new result };
 
     /// Cuts a file to a length that it has or is past (`ftruncate`).
     fn truncate(&mut self, file: DiskFile, len: u64) -> Result<(), DiskFault>
@@ -68,18 +58,12 @@ pub trait HostCalls {
         ensures cut { honest self.old → OnOk result (OnFile file (λ old new.
             new ≡ take len old) (reads self.old) (reads self.new)) }
         ensures left { honest self.old → Follows (OnFile file (CutBack len)) (may_leave self.old) (may_leave self.new) }
-        ensures time { GoesBy honest clock left_since may_leave self.old self.new }
-        ensures honest { honest self.old ↔ honest self.new }
-        ensures cause { HasCause (failures self.old) (failures self.new) result };
+        ensures goes { Goes honest may_leave clock left_since failures self.old self.new result };
 
     /// Makes what was written of this file last (`fdatasync`). After Ok a stop leaves of it what a read gives.
     fn sync_file(&mut self, file: DiskFile) -> Result<(), DiskFault>
         ensures durable { honest self.old → OnOk result (Rests file (reads self.old) (may_leave self.new)) }
-        ensures reads { honest self.old → reads self.new ≡ reads self.old }
-        ensures left { honest self.old → Within (may_leave self.new) (may_leave self.old) }
-        ensures time { GoesBy honest clock left_since may_leave self.old self.new }
-        ensures honest { honest self.old ↔ honest self.new }
-        ensures cause { HasCause (failures self.old) (failures self.new) result };
+        ensures stays { Stays honest reads may_leave clock left_since failures self.old self.new result };
 
     /// A stop now is one since an earlier clock.
     ghost counts_now: { (host : Self) (t : ℕ) (c : Image) → honest host → t ≤ clock host → may_leave host c

@@ -1,8 +1,8 @@
 //! A disk as a log sees it: what a read gives, and what a stop may leave.
-ghost use Rattle.std.specs.Prelude.{◌≡◌, ◌≤◌, ◌↔◌, ℕ, length, take, IfOk, OnOk};
+ghost use Rattle.std.specs.Prelude.{◌≡◌, ◌≤◌, ℕ, length, take, IfOk, OnOk};
 ghost use Rattle.fleet_disk.specs.Image.{Image, bytes_of};
-ghost use Rattle.fleet_disk.specs.Rules.{overwritten, IsRead, Torn, CutBack, OnFile, Follows, Within, Only};
-ghost use Rattle.fleet_disk.specs.Rules.{GoesBy, HasCause};
+ghost use Rattle.fleet_disk.specs.Rules.{overwritten, IsRead, Torn, CutBack, OnFile, Follows, Only};
+ghost use Rattle.fleet_disk.specs.Rules.{Goes, Stays};
 
 use thiserror::Error;
 
@@ -54,20 +54,12 @@ pub trait Disk {
         ensures within { IfOk result (λ n. n ≤ length buf.old) }
         ensures bytes { honest self.old → IfOk result (λ n. IsRead
             (bytes_of file (reads self.old)) at n buf.old buf.new) }
-        ensures reads { honest self.old → reads self.new ≡ reads self.old }
-        ensures left { honest self.old → Within (may_leave self.new) (may_leave self.old) }
-        ensures time { GoesBy honest clock left_since may_leave self.old self.new }
-        ensures honest { honest self.old ↔ honest self.new }
-        ensures cause { HasCause (failures self.old) (failures self.new) result };
+        ensures stays { Stays honest reads may_leave clock left_since failures self.old self.new result };
 
     /// How many bytes a file has.
     fn len(&mut self, file: DiskFile) -> Result<u64, DiskFault>
         ensures bytes { honest self.old → IfOk result (λ n. n ≡ length (bytes_of file (reads self.old))) }
-        ensures reads { honest self.old → reads self.new ≡ reads self.old }
-        ensures left { honest self.old → Within (may_leave self.new) (may_leave self.old) }
-        ensures time { GoesBy honest clock left_since may_leave self.old self.new }
-        ensures honest { honest self.old ↔ honest self.new }
-        ensures cause { HasCause (failures self.old) (failures self.new) result };
+        ensures stays { Stays honest reads may_leave clock left_since failures self.old self.new result };
 
     /// Writes bytes over what is there, and past the end.
     fn write_at(&mut self, file: DiskFile, at: u64, bytes: &[u8]) -> Result<(), DiskFault>
@@ -76,9 +68,7 @@ pub trait Disk {
             new ≡ overwritten at bytes.now old) (reads self.old) (reads self.new)) }
         ensures left { honest self.old → Follows (OnFile file (Torn at (length bytes.now))) (may_leave self.old)
             (may_leave self.new) }
-        ensures time { GoesBy honest clock left_since may_leave self.old self.new }
-        ensures honest { honest self.old ↔ honest self.new }
-        ensures cause { HasCause (failures self.old) (failures self.new) result };
+        ensures goes { Goes honest may_leave clock left_since failures self.old self.new result };
 
     /// Cuts a file to a length that it has or is past.
     fn cut(&mut self, file: DiskFile, len: u64) -> Result<(), DiskFault>
@@ -86,18 +76,12 @@ pub trait Disk {
         ensures cut { honest self.old → OnOk result (OnFile file (λ old new.
             new ≡ take len old) (reads self.old) (reads self.new)) }
         ensures left { honest self.old → Follows (OnFile file (CutBack len)) (may_leave self.old) (may_leave self.new) }
-        ensures time { GoesBy honest clock left_since may_leave self.old self.new }
-        ensures honest { honest self.old ↔ honest self.new }
-        ensures cause { HasCause (failures self.old) (failures self.new) result };
+        ensures goes { Goes honest may_leave clock left_since failures self.old self.new result };
 
     /// Makes what was written last. After Ok a stop leaves what a read gives.
     fn sync(&mut self) -> Result<(), DiskFault>
         ensures durable { honest self.old → OnOk result (Only (reads self.old) (may_leave self.new)) }
-        ensures reads { honest self.old → reads self.new ≡ reads self.old }
-        ensures left { honest self.old → Within (may_leave self.new) (may_leave self.old) }
-        ensures time { GoesBy honest clock left_since may_leave self.old self.new }
-        ensures honest { honest self.old ↔ honest self.new }
-        ensures cause { HasCause (failures self.old) (failures self.new) result };
+        ensures stays { Stays honest reads may_leave clock left_since failures self.old self.new result };
 
     /// A stop now is one since an earlier clock.
     ghost counts_now: { (disk : Self) (t : ℕ) (c : Image) → honest disk → t ≤ clock disk → may_leave disk c

@@ -1,11 +1,12 @@
 //! The disks of folders, by the single calls of a host.
-ghost use Rattle.std.specs.Prelude.{◌≡◌, ◌≤◌, ◌⊎◌, IfOk, IfSome, IsSome, IsTrue, OnOk, OnErr, string_bytes};
-ghost use Rattle.std.specs.Prelude.{IsNone, IsSomeAnd};
-ghost use Rattle.fleet_disk.specs.FolderFiles.{path_in, AreAll, AreIn, HasBytes, HasFiles, IsFound, IsHeld, LacksEntries};
-ghost use Rattle.fleet_disk.specs.Lasting.{IsMadeToLast, KeepsName, KeepsNames};
-ghost use Rattle.fleet_disk.specs.Lending.{Counts, Lends, MakesIn, MakesNothing, MakesOnly, Spares};
+ghost use Rattle.std.specs.Prelude.{◌≡◌, IfOk, IfSome, IsSome, IsSomeAnd, IsTrue, OnOk, string_bytes};
+ghost use Rattle.fleet_disk.specs.FolderFiles.{path_in, AreAll, HasBytes, IsFound, LacksEntries, Shows};
+ghost use Rattle.fleet_disk.specs.Folders.{AreFound, AreMade, IsCompleted, IsCreated, IsOver, LendsAndMakes};
+ghost use Rattle.fleet_disk.specs.Folders.{LendsOnlyIn, MakesAtIn, MakesFiles, MakesNoneIn};
+ghost use Rattle.fleet_disk.specs.Lasting.{IsMadeToLast, LastsUnlessFull, LastsUnlessLacking};
+ghost use Rattle.fleet_disk.specs.Lending.{Counts, Lends, MakesIn, Spares};
 ghost use Rattle.fleet_disk.specs.declared.disk.DiskFile.{DiskFile};
-ghost use Rattle.fleet_disk.specs.declared.disk.DiskFile.TheVariants.{Gate, Journal, Slots};
+ghost use Rattle.fleet_disk.specs.declared.disk.DiskFile.TheVariants.{Journal};
 
 use crate::above::above;
 use crate::disk::DiskFile;
@@ -23,13 +24,8 @@ pub fn open_folder<C: FolderCalls>(
     folder: &str,
 ) -> Result<C::Place, FolderFault>
     ensures lends { IfOk result (Lends C.Place.Disk C.honest C.disk calls.old calls.new folder.now) }
-    ensures held { IfOk result (λ place. IsHeld C.is_held (C.files place)) }
-    ensures inside { IfOk result (λ place. AreIn C.is_at (C.lacks calls.new) folder.now (C.files place)) }
-    ensures uncounted { IfOk result (λ place. C.Place.failures place ≡ 0) }
-    ensures nothing { MakesNothing C.lacks calls.old calls.new }
-    ensures same { OnErr result (Spares C.honest C.disk C.failures calls.old calls.new) }
-    ensures later { C.failures calls.old ≤ C.failures calls.new }
-    ensures cause { Counts C.failures calls.old calls.new result }
+    ensures over { IfOk result (IsOver C.FolderCalls C.Place.Disk calls.new folder.now) }
+    ensures only { LendsOnlyIn C.FolderCalls calls.old calls.new result }
 {
     let files = found(calls, alloc, folder)?;
     lend(calls, alloc, folder, files)
@@ -44,16 +40,11 @@ pub fn create_folder<C: FolderCalls>(
     folder: &str,
 ) -> Result<C::Place, FolderFault>
     ensures lends { IfOk result (Lends C.Place.Disk C.honest C.disk calls.old calls.new folder.now) }
-    ensures held { IfOk result (λ place. IsHeld C.is_held (C.files place)) }
-    ensures inside { IfOk result (λ place. AreIn C.is_at (C.lacks calls.new) folder.now (C.files place)) }
-    ensures made { IfOk result (λ place. (HasFiles (C.files place) × AreAll C.is_new (C.files place)
-        × IsMadeToLast C.honest C.lacks C.lasts calls.old calls.new folder.now)
-        ⊎ (HasBytes C.has_bytes (C.files place) × MakesNothing C.lacks calls.old calls.new)) }
-    ensures uncounted { IfOk result (λ place. C.Place.failures place ≡ 0) }
-    ensures nothing_else { MakesIn C.lacks folder.now calls.old calls.new }
-    ensures same { OnErr result (Spares C.honest C.disk C.failures calls.old calls.new) }
-    ensures later { C.failures calls.old ≤ C.failures calls.new }
-    ensures cause { Counts C.failures calls.old calls.new result }
+    ensures over { IfOk result (IsOver C.FolderCalls C.Place.Disk calls.new folder.now) }
+    ensures made { IfOk result (IsCreated C.FolderCalls calls.old calls.new folder.now) }
+    ensures lasting { IfOk result (LastsUnlessFull C.honest C.lacks C.lasts C.Place.reads calls.old calls.new
+        folder.now) }
+    ensures makes { LendsAndMakes C.FolderCalls folder.now calls.old calls.new result }
 {
     let files = found(calls, alloc, folder)?;
     let is_full = has_bytes(calls, &files)?;
@@ -73,16 +64,10 @@ pub fn complete_folder<C: FolderCalls>(
     folder: &str,
 ) -> Result<C::Place, FolderFault>
     ensures lends { IfOk result (Lends C.Place.Disk C.honest C.disk calls.old calls.new folder.now) }
-    ensures held { IfOk result (λ place. IsHeld C.is_held (C.files place)) }
-    ensures inside { IfOk result (λ place. AreIn C.is_at (C.lacks calls.new) folder.now (C.files place)) }
-    ensures made { IfOk result (λ place. (HasFiles (C.files place)
-        × ((file : DiskFile) → C.lasts calls.new (path_in folder.now file)))
-        ⊎ (LacksEntries (C.files place) × MakesNothing C.lacks calls.old calls.new)) }
-    ensures uncounted { IfOk result (λ place. C.Place.failures place ≡ 0) }
-    ensures nothing_else { MakesIn C.lacks folder.now calls.old calls.new }
-    ensures same { OnErr result (Spares C.honest C.disk C.failures calls.old calls.new) }
-    ensures later { C.failures calls.old ≤ C.failures calls.new }
-    ensures cause { Counts C.failures calls.old calls.new result }
+    ensures over { IfOk result (IsOver C.FolderCalls C.Place.Disk calls.new folder.now) }
+    ensures made { IfOk result (IsCompleted C.FolderCalls calls.old calls.new folder.now) }
+    ensures lasting { IfOk result (LastsUnlessLacking C.honest C.lasts C.Place.reads calls.old calls.new folder.now) }
+    ensures makes { LendsAndMakes C.FolderCalls folder.now calls.old calls.new result }
 {
     let files = found(calls, alloc, folder)?;
     if lacks_entries(&files) {
@@ -99,16 +84,12 @@ fn lend<C: FolderCalls>(
     folder: &str,
     files: FolderFiles<C::File>,
 ) -> Result<C::Place, FolderFault>
-    requires inside { AreIn C.is_at (C.lacks calls.old) folder.now files }
-    requires held { IsHeld C.is_held files }
+    requires { AreFound C.FolderCalls calls.old folder.now files }
     ensures lends { IfOk result (Lends C.Place.Disk C.honest C.disk calls.old calls.new folder.now) }
+    ensures shown { C.honest calls.old → IfOk result (λ place. Shows C.has_bytes files (C.Place.reads place)) }
     ensures files { IfOk result (λ place. C.files place ≡ files) }
     ensures uncounted { IfOk result (λ place. C.Place.failures place ≡ 0) }
-    ensures nothing { MakesNothing C.lacks calls.old calls.new }
-    ensures names { KeepsNames C.lasts calls.old calls.new }
-    ensures same { OnErr result (Spares C.honest C.disk C.failures calls.old calls.new) }
-    ensures later { C.failures calls.old ≤ C.failures calls.new }
-    ensures cause { Counts C.failures calls.old calls.new result }
+    ensures only { LendsOnlyIn C.FolderCalls calls.old calls.new result }
 {
     let mut opened = files;
     calls.lend(alloc, folder, &mut opened)
@@ -133,9 +114,7 @@ fn opened<C: FolderCalls>(
     file: DiskFile,
 ) -> Result<Option<C::File>, FolderFault>
     ensures found { IfOk result (IsFound C.is_at (C.lacks calls.new) (path_in folder.now file)) }
-    ensures nothing { MakesNothing C.lacks calls.old calls.new }
-    ensures spares { Spares C.honest C.disk C.failures calls.old calls.new }
-    ensures cause { Counts C.failures calls.old calls.new result }
+    ensures makes { MakesNoneIn C.FolderCalls calls.old calls.new result }
 {
     let path = path_to(alloc, folder, file)?;
     calls.open(path.as_str())
@@ -150,10 +129,7 @@ fn made<C: FolderCalls>(
 ) -> Result<C::File, FolderFault>
     ensures at { IfOk result (λ made. C.is_at made (path_in folder.now file)) }
     ensures new { IfOk result C.is_new }
-    ensures nothing_else { MakesIn C.lacks folder.now calls.old calls.new }
-    ensures name { KeepsName C.lasts folder.now calls.old calls.new }
-    ensures spares { Spares C.honest C.disk C.failures calls.old calls.new }
-    ensures cause { Counts C.failures calls.old calls.new result }
+    ensures makes { MakesFiles C.FolderCalls folder.now calls.old calls.new result }
 {
     let path = path_to(alloc, folder, file)?;
     calls.make(path.as_str())
@@ -162,9 +138,7 @@ fn made<C: FolderCalls>(
 // Holds the journal, where it is there.
 fn hold_found<C: FolderCalls>(calls: &mut C, journal: &Option<C::File>) -> Result<(), FolderFault>
     ensures held { OnOk result (IfSome journal.now C.is_held) }
-    ensures nothing { MakesNothing C.lacks calls.old calls.new }
-    ensures spares { Spares C.honest C.disk C.failures calls.old calls.new }
-    ensures cause { Counts C.failures calls.old calls.new result }
+    ensures makes { MakesNoneIn C.FolderCalls calls.old calls.new result }
 {
     match journal {
         Some(file) => calls.hold(file),
@@ -178,11 +152,8 @@ fn found<C: FolderCalls>(
     alloc: Global,
     folder: &str,
 ) -> Result<FolderFiles<C::File>, FolderFault>
-    ensures inside { IfOk result (AreIn C.is_at (C.lacks calls.new) folder.now) }
-    ensures held { IfOk result (IsHeld C.is_held) }
-    ensures nothing { MakesNothing C.lacks calls.old calls.new }
-    ensures spares { Spares C.honest C.disk C.failures calls.old calls.new }
-    ensures cause { Counts C.failures calls.old calls.new result }
+    ensures found { IfOk result (AreFound C.FolderCalls calls.new folder.now) }
+    ensures makes { MakesNoneIn C.FolderCalls calls.old calls.new result }
 {
     let journal = opened(calls, alloc, folder, DiskFile::Journal)?;
     hold_found(calls, &journal)?;
@@ -202,9 +173,7 @@ fn has_bytes<C: FolderCalls>(
 ) -> Result<bool, FolderFault>
     ensures some { IfOk result (λ some. IsTrue some → HasBytes C.has_bytes files.now) }
     ensures none { IfOk result (λ some. ¬ IsTrue some → AreAll C.is_new files.now) }
-    ensures nothing { MakesNothing C.lacks calls.old calls.new }
-    ensures spares { Spares C.honest C.disk C.failures calls.old calls.new }
-    ensures cause { Counts C.failures calls.old calls.new result }
+    ensures makes { MakesNoneIn C.FolderCalls calls.old calls.new result }
 {
     let journal = is_full(calls, &files.journal)?;
     let gate = is_full(calls, &files.gate)?;
@@ -216,9 +185,7 @@ fn has_bytes<C: FolderCalls>(
 fn is_full<C: FolderCalls>(calls: &mut C, file: &Option<C::File>) -> Result<bool, FolderFault>
     ensures some { IfOk result (λ some. IsTrue some → IsSomeAnd file.now C.has_bytes) }
     ensures none { IfOk result (λ some. ¬ IsTrue some → IfSome file.now C.is_new) }
-    ensures nothing { MakesNothing C.lacks calls.old calls.new }
-    ensures spares { Spares C.honest C.disk C.failures calls.old calls.new }
-    ensures cause { Counts C.failures calls.old calls.new result }
+    ensures makes { MakesNoneIn C.FolderCalls calls.old calls.new result }
 {
     match file {
         Some(file) => {
@@ -248,10 +215,7 @@ fn there<C: FolderCalls>(
     requires { IfSome found (λ there. C.is_at there (path_in folder.now file)) }
     ensures at { IfOk result (λ there. C.is_at there (path_in folder.now file)) }
     ensures new { IfSome found C.is_new → IfOk result C.is_new }
-    ensures nothing_else { MakesIn C.lacks folder.now calls.old calls.new }
-    ensures name { KeepsName C.lasts folder.now calls.old calls.new }
-    ensures spares { Spares C.honest C.disk C.failures calls.old calls.new }
-    ensures cause { Counts C.failures calls.old calls.new result }
+    ensures makes { MakesFiles C.FolderCalls folder.now calls.old calls.new result }
 {
     match found {
         Some(there) => Ok(there),
@@ -271,10 +235,7 @@ fn held_journal<C: FolderCalls>(
     ensures at { IfOk result (λ there. C.is_at there (path_in folder.now Journal)) }
     ensures held { IfOk result C.is_held }
     ensures new { IfSome found C.is_new → IfOk result C.is_new }
-    ensures nothing_else { MakesIn C.lacks folder.now calls.old calls.new }
-    ensures name { KeepsName C.lasts folder.now calls.old calls.new }
-    ensures spares { Spares C.honest C.disk C.failures calls.old calls.new }
-    ensures cause { Counts C.failures calls.old calls.new result }
+    ensures makes { MakesFiles C.FolderCalls folder.now calls.old calls.new result }
 {
     match found {
         Some(there) => Ok(there),
@@ -290,9 +251,7 @@ fn held_journal<C: FolderCalls>(
 fn make_missing<C: FolderCalls>(calls: &mut C, folder: &str) -> Result<(), FolderFault>
     ensures name { C.honest calls.old
         → OnOk result (C.lacks calls.old folder.now → C.lasts calls.new folder.now) }
-    ensures nothing_else { MakesOnly C.lacks folder.now calls.old calls.new }
-    ensures spares { Spares C.honest C.disk C.failures calls.old calls.new }
-    ensures cause { Counts C.failures calls.old calls.new result }
+    ensures makes { MakesAtIn C.FolderCalls folder.now calls.old calls.new result }
 {
     let is_made = calls.make_folder(folder)?;
     if is_made {
@@ -309,16 +268,9 @@ fn make_files<C: FolderCalls>(
     folder: &str,
     files: FolderFiles<C::File>,
 ) -> Result<FolderFiles<C::File>, FolderFault>
-    requires inside { AreIn C.is_at (C.lacks calls.old) folder.now files }
-    requires held { IsHeld C.is_held files }
-    ensures inside { IfOk result (AreIn C.is_at (C.lacks calls.new) folder.now) }
-    ensures whole { IfOk result HasFiles }
-    ensures held { IfOk result (IsHeld C.is_held) }
-    ensures new { AreAll C.is_new files → IfOk result (AreAll C.is_new) }
-    ensures nothing_else { MakesIn C.lacks folder.now calls.old calls.new }
-    ensures name { KeepsName C.lasts folder.now calls.old calls.new }
-    ensures spares { Spares C.honest C.disk C.failures calls.old calls.new }
-    ensures cause { Counts C.failures calls.old calls.new result }
+    requires { AreFound C.FolderCalls calls.old folder.now files }
+    ensures made { IfOk result (AreMade C.FolderCalls calls.new folder.now files) }
+    ensures makes { MakesFiles C.FolderCalls folder.now calls.old calls.new result }
 {
     let FolderFiles {
         journal,
@@ -342,12 +294,8 @@ fn make_all<C: FolderCalls>(
     folder: &str,
     files: FolderFiles<C::File>,
 ) -> Result<FolderFiles<C::File>, FolderFault>
-    requires inside { AreIn C.is_at (C.lacks calls.old) folder.now files }
-    requires held { IsHeld C.is_held files }
-    ensures inside { IfOk result (AreIn C.is_at (C.lacks calls.new) folder.now) }
-    ensures whole { IfOk result HasFiles }
-    ensures held { IfOk result (IsHeld C.is_held) }
-    ensures new { AreAll C.is_new files → IfOk result (AreAll C.is_new) }
+    requires { AreFound C.FolderCalls calls.old folder.now files }
+    ensures made { IfOk result (AreMade C.FolderCalls calls.new folder.now files) }
     ensures lasting { OnOk result (IsMadeToLast C.honest C.lacks C.lasts calls.old calls.new folder.now) }
     ensures nothing_else { MakesIn C.lacks folder.now calls.old calls.new }
     ensures spares { Spares C.honest C.disk C.failures calls.old calls.new }
@@ -367,17 +315,12 @@ fn make_slots<C: FolderCalls>(
     folder: &str,
     files: FolderFiles<C::File>,
 ) -> Result<FolderFiles<C::File>, FolderFault>
-    requires inside { AreIn C.is_at (C.lacks calls.old) folder.now files }
-    requires held { IsHeld C.is_held files }
+    requires found { AreFound C.FolderCalls calls.old folder.now files }
     requires journal { IsSome files.journal }
     requires gate { IsSome files.gate }
-    ensures inside { IfOk result (AreIn C.is_at (C.lacks calls.new) folder.now) }
-    ensures whole { IfOk result HasFiles }
-    ensures held { IfOk result (IsHeld C.is_held) }
+    ensures made { IfOk result (AreMade C.FolderCalls calls.new folder.now files) }
     ensures lasting { OnOk result ((file : DiskFile) → C.lasts calls.new (path_in folder.now file)) }
-    ensures nothing_else { MakesIn C.lacks folder.now calls.old calls.new }
-    ensures spares { Spares C.honest C.disk C.failures calls.old calls.new }
-    ensures cause { Counts C.failures calls.old calls.new result }
+    ensures makes { MakesFiles C.FolderCalls folder.now calls.old calls.new result }
 {
     let FolderFiles {
         journal,

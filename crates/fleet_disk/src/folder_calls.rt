@@ -1,9 +1,9 @@
 //! What a host does to open, make and close the files of folders.
-ghost use Rattle.std.specs.Prelude.{◌≡◌, ◌≤◌, ℕ, List, false, true, IfOk, OnOk, OnErr};
-ghost use Rattle.fleet_disk.specs.FolderFiles.{AreIn, IsFound, IsHeld};
-ghost use Rattle.fleet_disk.specs.Lasting.{IsSynced, KeepsNames, KeepsOthers};
-ghost use Rattle.fleet_disk.specs.Lending.{FolderDisk, Counts, Lends, MakesNothing, MakesOnly};
-ghost use Rattle.fleet_disk.specs.Lending.{OthersStay, Spares, Lent, There};
+ghost use Rattle.std.specs.Prelude.{◌≡◌, ℕ, List, false, true, IfOk, OnOk};
+ghost use Rattle.fleet_disk.specs.FolderFiles.{AreIn, IsFound, IsHeld, Shows};
+ghost use Rattle.fleet_disk.specs.Lasting.{IsSynced, KeepsNames};
+ghost use Rattle.fleet_disk.specs.Lending.{FolderDisk, Lends, LendsOnly, MakesAt, MakesNone, MakesNothing};
+ghost use Rattle.fleet_disk.specs.Lending.{TakesBack, There};
 ghost use Rattle.fleet_disk.specs.declared.folder_files.FolderFiles.{FolderFiles as FilesOf};
 
 use crate::disk::Disk;
@@ -55,52 +55,34 @@ pub trait FolderCalls {
     /// Opens the file at a path to read and write it (`open`); None where nothing is there.
     fn open(&mut self, path: &str) -> Result<Option<Self::File>, FolderFault>
         ensures found { IfOk result (IsFound is_at (lacks self.new) path.now) }
-        ensures nothing { MakesNothing lacks self.old self.new }
-        ensures names { KeepsNames lasts self.old self.new }
-        ensures spares { Spares honest disk failures self.old self.new }
-        ensures cause { Counts failures self.old self.new result };
+        ensures makes { MakesNone honest disk lacks lasts failures self.old self.new result };
 
     /// Makes an empty file at a path, where nothing is (`open` with `O_CREAT` and `O_EXCL`).
     fn make(&mut self, path: &str) -> Result<Self::File, FolderFault>
         ensures at { IfOk result (λ file. is_at file path.now) }
         ensures new { IfOk result is_new }
-        ensures nothing_else { MakesOnly lacks path.now self.old self.new }
-        ensures names { KeepsOthers lasts path.now self.old self.new }
-        ensures spares { Spares honest disk failures self.old self.new }
-        ensures cause { Counts failures self.old self.new result };
+        ensures makes { MakesAt honest disk lacks lasts failures path.now self.old self.new result };
 
     /// Holds a file (`flock`). It is refused where another opening holds it.
     fn hold(&mut self, file: &Self::File) -> Result<(), FolderFault>
         ensures held { OnOk result (is_held file.now) }
-        ensures nothing { MakesNothing lacks self.old self.new }
-        ensures names { KeepsNames lasts self.old self.new }
-        ensures spares { Spares honest disk failures self.old self.new }
-        ensures cause { Counts failures self.old self.new result };
+        ensures makes { MakesNone honest disk lacks lasts failures self.old self.new result };
 
     /// Whether a file has no byte (`fstat`).
     fn is_empty(&mut self, file: &Self::File) -> Result<bool, FolderFault>
         ensures bytes { IfOk result (λ empty. empty ≡ false → has_bytes file.now) }
         ensures new { IfOk result (λ empty. empty ≡ true → is_new file.now) }
-        ensures nothing { MakesNothing lacks self.old self.new }
-        ensures names { KeepsNames lasts self.old self.new }
-        ensures spares { Spares honest disk failures self.old self.new }
-        ensures cause { Counts failures self.old self.new result };
+        ensures makes { MakesNone honest disk lacks lasts failures self.old self.new result };
 
     /// Makes a folder (`mkdir`); false where something of its name is there.
     fn make_folder(&mut self, folder: &str) -> Result<bool, FolderFault>
         ensures there { honest self.old → IfOk result (λ made. made ≡ false → ¬ lacks self.old folder.now) }
-        ensures nothing_else { MakesOnly lacks folder.now self.old self.new }
-        ensures names { KeepsOthers lasts folder.now self.old self.new }
-        ensures spares { Spares honest disk failures self.old self.new }
-        ensures cause { Counts failures self.old self.new result };
+        ensures makes { MakesAt honest disk lacks lasts failures folder.now self.old self.new result };
 
     /// Makes the names in a folder last (`fsync`).
     fn sync_folder(&mut self, folder: &str) -> Result<(), FolderFault>
         ensures synced { OnOk result (IsSynced (lasts self.new) folder.now) }
-        ensures nothing { MakesNothing lacks self.old self.new }
-        ensures names { KeepsNames lasts self.old self.new }
-        ensures spares { Spares honest disk failures self.old self.new }
-        ensures cause { Counts failures self.old self.new result };
+        ensures makes { MakesNone honest disk lacks lasts failures self.old self.new result };
 
     /// Lends the disk of a folder over those of its files that are there, which it takes. One that is lent isn't lent
     /// again. A host may refuse a folder that was moved since its journal was opened.
@@ -112,23 +94,17 @@ pub trait FolderCalls {
     ) -> Result<Self::Place, FolderFault>
         ensures lends { AreIn is_at (lacks self.old) folder.now opened.old → IsHeld is_held opened.old
             → IfOk result (Lends Self.Place.Disk honest disk self.old self.new folder.now) }
+        ensures shown { AreIn is_at (lacks self.old) folder.now opened.old → honest self.old
+            → IfOk result (λ place. Shows has_bytes opened.old (Self.Place.reads place)) }
         ensures files { IfOk result (λ place. files place ≡ opened.old) }
         ensures uncounted { IfOk result (λ place. Self.Place.failures place ≡ 0) }
-        ensures nothing { MakesNothing lacks self.old self.new }
-        ensures names { KeepsNames lasts self.old self.new }
-        ensures same { OnErr result (Spares honest disk failures self.old self.new) }
-        ensures later { failures self.old ≤ failures self.new }
-        ensures cause { Counts failures self.old self.new result };
+        ensures only { LendsOnly honest disk lacks lasts failures self.old self.new result };
 
     /// Closes the files of a folder, and takes its disk back (`close`).
     fn close(&mut self, folder: &str, place: Self::Place)
-        ensures back { honest self.old → disk self.old folder.now ≡ Lent → disk self.new folder.now ≡ There place }
-        ensures others { honest self.old → disk self.old folder.now ≡ Lent
-            → OthersStay folder.now (disk self.old) (disk self.new) }
-        ensures honest { honest self.old → Self.Place.honest place → honest self.new }
+        ensures back { TakesBack Self.Place.honest honest disk failures self.old self.new folder.now place }
         ensures nothing { MakesNothing lacks self.old self.new }
-        ensures names { KeepsNames lasts self.old self.new }
-        ensures later { failures self.old ≤ failures self.new };
+        ensures names { KeepsNames lasts self.old self.new };
 
     /// The disks that are there keep the rules.
     ghost keeps_rules: { (calls : Self) (folder : List ℕ) (place : Self.Place) → honest calls

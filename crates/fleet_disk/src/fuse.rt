@@ -1,9 +1,8 @@
 //! A disk whose calls fail after a number of them.
-ghost use Rattle.std.specs.Prelude.{◌≡◌, ◌≤◌, ◌<◌, ◌+◌, ◌-◌, ◌↔◌, length, take, IfOk, OnOk, IsTrue, IsFalse};
-ghost use Rattle.fleet_disk.specs.Fused.{inner_of, passing_of, fuse_of, blown, FailsNext, HasBlown, HasPassed, IsCausedIn};
+ghost use Rattle.std.specs.Prelude.{◌≡◌, ◌≤◌, ◌+◌, length, take, IfOk, OnOk};
+ghost use Rattle.fleet_disk.specs.Fused.{inner_of, passing_of, fuse_of, Burns, GoesIn, Passes, StaysIn};
 ghost use Rattle.fleet_disk.specs.Image.{bytes_of};
-ghost use Rattle.fleet_disk.specs.Rules.{overwritten, IsRead, Torn, CutBack, OnFile, Follows, Within, Only, Rose};
-ghost use Rattle.fleet_disk.specs.Passing.{GoesOn};
+ghost use Rattle.fleet_disk.specs.Rules.{overwritten, IsRead, Torn, CutBack, OnFile, Follows, Only};
 
 use crate::disk::{Disk, DiskFault, DiskFile};
 
@@ -57,14 +56,7 @@ impl<D: Disk> FuseDisk<D> {
 
     // The next call passes; else its failure is counted.
     fn passes(&mut self) -> bool
-        ensures inner { self.new.inner ≡ self.old.inner }
-        ensures later { self.old.failures ≤ self.new.failures }
-        ensures rose { IsFalse result → Rose self.old.failures self.new.failures }
-        ensures same { IsTrue result → self.new.failures ≡ self.old.failures }
-        ensures fails { IsFalse result → FailsNext self.old }
-        ensures passes { IsTrue result → ¬ FailsNext self.old }
-        ensures blows { IsFalse result → (self.new.left ≡ self.old.left) × (self.new.fuse ≡ blown self.old.fuse) }
-        ensures burns { IsTrue result → (self.new.left ≡ self.old.left - 1) × (self.new.fuse ≡ self.old.fuse) }
+        ensures { Passes self.old self.new result }
     {
         if self.left > 0 {
             self.left -= 1;
@@ -103,13 +95,8 @@ impl<D: Disk> Disk for FuseDisk<D> {
         ensures within { IfOk result (λ n. n ≤ length buf.old) }
         ensures bytes { D.honest self.old.inner → IfOk result (λ n. IsRead
             (bytes_of file (D.reads self.old.inner)) at n buf.old buf.new) }
-        ensures reads { D.honest self.old.inner → D.reads self.new.inner ≡ D.reads self.old.inner }
-        ensures left { D.honest self.old.inner → Within (D.may_leave self.new.inner) (D.may_leave self.old.inner) }
-        ensures time { GoesOn D.Disk self.old.inner self.new.inner }
-        ensures honest { D.honest self.old.inner ↔ D.honest self.new.inner }
-        ensures cause { IsCausedIn D.Disk self.old self.new result }
-        ensures blows { FailsNext self.old → HasBlown self.old self.new result }
-        ensures passes { ¬ FailsNext self.old → HasPassed D.failures self.old self.new result }
+        ensures stays { StaysIn D.Disk self.old self.new result }
+        ensures burns { Burns D.failures self.old self.new result }
     {
         if !self.passes() {
             return Err(DiskFault::DeviceFailed);
@@ -120,13 +107,8 @@ impl<D: Disk> Disk for FuseDisk<D> {
     fn len(&mut self, file: DiskFile) -> Result<u64, DiskFault>
         ensures bytes { D.honest self.old.inner
             → IfOk result (λ n. n ≡ length (bytes_of file (D.reads self.old.inner))) }
-        ensures reads { D.honest self.old.inner → D.reads self.new.inner ≡ D.reads self.old.inner }
-        ensures left { D.honest self.old.inner → Within (D.may_leave self.new.inner) (D.may_leave self.old.inner) }
-        ensures time { GoesOn D.Disk self.old.inner self.new.inner }
-        ensures honest { D.honest self.old.inner ↔ D.honest self.new.inner }
-        ensures cause { IsCausedIn D.Disk self.old self.new result }
-        ensures blows { FailsNext self.old → HasBlown self.old self.new result }
-        ensures passes { ¬ FailsNext self.old → HasPassed D.failures self.old self.new result }
+        ensures stays { StaysIn D.Disk self.old self.new result }
+        ensures burns { Burns D.failures self.old self.new result }
     {
         if !self.passes() {
             return Err(DiskFault::DeviceFailed);
@@ -140,11 +122,8 @@ impl<D: Disk> Disk for FuseDisk<D> {
             new ≡ overwritten at bytes.now old) (D.reads self.old.inner) (D.reads self.new.inner)) }
         ensures left { D.honest self.old.inner → Follows (OnFile file (Torn at (length bytes.now)))
             (D.may_leave self.old.inner) (D.may_leave self.new.inner) }
-        ensures time { GoesOn D.Disk self.old.inner self.new.inner }
-        ensures honest { D.honest self.old.inner ↔ D.honest self.new.inner }
-        ensures cause { IsCausedIn D.Disk self.old self.new result }
-        ensures blows { FailsNext self.old → HasBlown self.old self.new result }
-        ensures passes { ¬ FailsNext self.old → HasPassed D.failures self.old self.new result }
+        ensures goes { GoesIn D.Disk self.old self.new result }
+        ensures burns { Burns D.failures self.old self.new result }
     {
         if !self.passes() {
             return Err(DiskFault::DeviceFailed);
@@ -158,11 +137,8 @@ impl<D: Disk> Disk for FuseDisk<D> {
             new ≡ take len old) (D.reads self.old.inner) (D.reads self.new.inner)) }
         ensures left { D.honest self.old.inner → Follows (OnFile file (CutBack len)) (D.may_leave self.old.inner)
             (D.may_leave self.new.inner) }
-        ensures time { GoesOn D.Disk self.old.inner self.new.inner }
-        ensures honest { D.honest self.old.inner ↔ D.honest self.new.inner }
-        ensures cause { IsCausedIn D.Disk self.old self.new result }
-        ensures blows { FailsNext self.old → HasBlown self.old self.new result }
-        ensures passes { ¬ FailsNext self.old → HasPassed D.failures self.old self.new result }
+        ensures goes { GoesIn D.Disk self.old self.new result }
+        ensures burns { Burns D.failures self.old self.new result }
     {
         if !self.passes() {
             return Err(DiskFault::DeviceFailed);
@@ -173,13 +149,8 @@ impl<D: Disk> Disk for FuseDisk<D> {
     fn sync(&mut self) -> Result<(), DiskFault>
         ensures durable { D.honest self.old.inner
             → OnOk result (Only (D.reads self.old.inner) (D.may_leave self.new.inner)) }
-        ensures reads { D.honest self.old.inner → D.reads self.new.inner ≡ D.reads self.old.inner }
-        ensures left { D.honest self.old.inner → Within (D.may_leave self.new.inner) (D.may_leave self.old.inner) }
-        ensures time { GoesOn D.Disk self.old.inner self.new.inner }
-        ensures honest { D.honest self.old.inner ↔ D.honest self.new.inner }
-        ensures cause { IsCausedIn D.Disk self.old self.new result }
-        ensures blows { FailsNext self.old → HasBlown self.old self.new result }
-        ensures passes { ¬ FailsNext self.old → HasPassed D.failures self.old self.new result }
+        ensures stays { StaysIn D.Disk self.old self.new result }
+        ensures burns { Burns D.failures self.old self.new result }
     {
         if !self.passes() {
             return Err(DiskFault::DeviceFailed);

@@ -1,10 +1,9 @@
 //! A disk over the calls of a host.
-ghost use Rattle.std.specs.Prelude.{◌≡◌, ◌↔◌, true, false, OnOk};
+ghost use Rattle.std.specs.Prelude.{◌≡◌, true, false, OnOk};
 ghost use Rattle.std.proofs.Props.{props};
 ghost use Rattle.fleet_disk.specs.Ahead.{IsAhead};
-ghost use Rattle.fleet_disk.specs.Passing.{HostGoesOn};
+ghost use Rattle.fleet_disk.specs.Passing.{HostStays};
 ghost use Rattle.fleet_disk.specs.Rests.{Rests};
-ghost use Rattle.fleet_disk.specs.Rules.{HasCause, Within};
 ghost use Rattle.fleet_disk.specs.declared.disk.DiskFile.TheVariants.{Journal, Gate, Slots};
 
 use crate::ahead::{Ahead, read_through};
@@ -141,11 +140,7 @@ fn sync_stirred<H: HostCalls>(
     requires rests { H.honest host.old → rests.old ≡ true → Rests file (H.reads host.old) (H.may_leave host.old) }
     ensures synced { OnOk result (rests.new ≡ true) }
     ensures rests { H.honest host.old → rests.new ≡ true → Rests file (H.reads host.old) (H.may_leave host.new) }
-    ensures reads { H.honest host.old → H.reads host.new ≡ H.reads host.old }
-    ensures left { H.honest host.old → Within (H.may_leave host.new) (H.may_leave host.old) }
-    ensures time { HostGoesOn H.HostCalls host.old host.new }
-    ensures honest { H.honest host.old ↔ H.honest host.new }
-    ensures cause { HasCause (H.failures host.old) (H.failures host.new) result }
+    ensures stays { HostStays H.HostCalls host.old host.new result }
 {
     if *rests {
         return Ok(());

@@ -1,11 +1,9 @@
 //! A disk in memory, which remembers its calls and can be stopped.
-ghost use Rattle.std.specs.Prelude.{◌≡◌, ◌≤◌, ◌↔◌, ◌+◌, ◌-◌, ◌++◌, ℕ, [], ◌∷◌, length, take, IfOk, OnOk, OnErr, Vec, ⊤};
+ghost use Rattle.std.specs.Prelude.{◌≡◌, ◌≤◌, ℕ, [], length, take, IfOk, OnOk, ⊤};
 ghost use Rattle.fleet_disk.specs.Contents.{image_of};
 ghost use Rattle.fleet_disk.specs.Image.{Image, bytes_of};
-ghost use Rattle.fleet_disk.specs.Memory.{read_after, written, on_file, Leaves, LeftSince};
-ghost use Rattle.std.specs.declared.alloc.Global.{Global};
-ghost use Rattle.fleet_disk.specs.Rules.{overwritten, IsRead, Only, Rose, Torn, CutBack, OnFile, Follows, Within};
-ghost use Rattle.fleet_disk.specs.Rules.{HasCause};
+ghost use Rattle.fleet_disk.specs.Memory.{read_after};
+ghost use Rattle.fleet_disk.specs.Rules.{overwritten, IsRead, Only, Torn, CutBack, OnFile, Follows};
 
 use crate::call::{DiskCall, Pick};
 use crate::contents::Contents;
@@ -26,14 +24,11 @@ pub struct MemDisk {
 }
 
 impl MemDisk {
-    ghost use Rattle.fleet_disk.specs.Stopped.{calls_of, now_of, picked_of, MayLeave};
+    ghost use Rattle.fleet_disk.specs.Stopped.{calls_of, now_of, picked_of, Fails, IsNew, MayLeave, Writes};
 
     /// A disk of three empty files.
     pub fn new(alloc: Global) -> MemDisk
-        ensures journal { (now_of result).journal ≡ [] }
-        ensures gate { (now_of result).gate ≡ [] }
-        ensures slots { (now_of result).slots ≡ [] }
-        ensures calls { calls_of result ≡ [] }
+        ensures { IsNew [] [] [] result }
     {
         MemDisk {
             alloc,
@@ -51,10 +46,7 @@ impl MemDisk {
         gate: &[u8],
         slots: &[u8],
     ) -> Result<MemDisk, AllocError>
-        ensures journal { IfOk result (λ disk. (now_of disk).journal ≡ journal.now) }
-        ensures gate { IfOk result (λ disk. (now_of disk).gate ≡ gate.now) }
-        ensures slots { IfOk result (λ disk. (now_of disk).slots ≡ slots.now) }
-        ensures calls { IfOk result (λ disk. calls_of disk ≡ []) }
+        ensures { IfOk result (IsNew journal.now gate.now slots.now) }
     {
         let first = Contents {
             journal: journal.to_vec(alloc)?,
@@ -112,11 +104,7 @@ impl MemDisk {
 
     // Counts a failure of the device.
     fn fail(&mut self) -> DiskFault
-        ensures rose { Rose self.old.failures self.new.failures }
-        ensures later { self.old.failures ≤ self.new.failures }
-        ensures first { self.new.first ≡ self.old.first }
-        ensures files { self.new.files ≡ self.old.files }
-        ensures calls { self.new.calls ≡ self.old.calls }
+        ensures { Fails self.old self.new }
     {
         self.failures = self.failures.saturating_add(1);
         DiskFault::DeviceFailed
@@ -124,13 +112,7 @@ impl MemDisk {
 
     // Writes and remembers it, or changes nothing.
     fn write(&mut self, file: DiskFile, at: u64, bytes: &[u8]) -> Result<(), AllocError>
-        ensures ok { OnOk result ((kept : Vec ℕ Global) × (kept.items ≡ bytes.now)
-            × (self.new.calls.items ≡ self.old.calls.items ++ DiskCall.Write file at kept ∷ [])
-            × (image_of self.new.files ≡ on_file file (written at bytes.now) (image_of self.old.files))) }
-        ensures err { OnErr result ((self.new.calls.items ≡ self.old.calls.items)
-            × (image_of self.new.files ≡ image_of self.old.files)) }
-        ensures first { self.new.first ≡ self.old.first }
-        ensures failures { self.new.failures ≡ self.old.failures }
+        ensures { Writes file at bytes.now self.old self.new result }
     {
         self.calls.reserve(1)?;
         let kept = bytes.to_vec(self.alloc)?;
@@ -146,7 +128,7 @@ impl MemDisk {
 
 impl Disk for MemDisk {
     ghost use Rattle.fleet_disk.specs.MemoryLaws.{counted_now, only_left, read_is_left};
-    ghost use Rattle.fleet_disk.specs.Stopped.{calls_of, now_of, GoesOnIn, MayLeave, RemembersWrite, WasLeft};
+    ghost use Rattle.fleet_disk.specs.Stopped.{calls_of, now_of, GoesIn, MayLeave, Remembers, RemembersWrite, StaysIn, WasLeft};
     ghost use Rattle.std.proofs.Common.{subst};
 
     ghost honest = { λ disk. ⊤ };
@@ -172,14 +154,8 @@ impl Disk for MemDisk {
         ensures within { IfOk result (λ n. n ≤ length buf.old) }
         ensures bytes { ⊤ → IfOk result (λ n. IsRead
             (bytes_of file (now_of self.old)) at n buf.old buf.new) }
-        ensures reads { ⊤ → now_of self.new ≡ now_of self.old }
-        ensures left { ⊤ → Within (MayLeave self.new) (MayLeave self.old) }
-        ensures time { GoesOnIn self.old self.new }
-        ensures honest { ⊤ ↔ ⊤ }
-        ensures cause { HasCause self.old.failures self.new.failures result }
-        ensures remembers { OnOk result
-            (calls_of self.new ≡ calls_of self.old ++ DiskCall.Read file at (length buf.old) ∷ []) }
-        ensures forgets { OnErr result (calls_of self.new ≡ calls_of self.old) }
+        ensures stays { StaysIn self.old self.new result }
+        ensures remembers { Remembers (DiskCall.Read file at (length buf.old)) self.old self.new result }
     {
         let len = buf.len();
         if self.calls.reserve(1).is_err() {
@@ -191,13 +167,8 @@ impl Disk for MemDisk {
 
     fn len(&mut self, file: DiskFile) -> Result<u64, DiskFault>
         ensures bytes { ⊤ → IfOk result (λ n. n ≡ length (bytes_of file (now_of self.old))) }
-        ensures reads { ⊤ → now_of self.new ≡ now_of self.old }
-        ensures left { ⊤ → Within (MayLeave self.new) (MayLeave self.old) }
-        ensures time { GoesOnIn self.old self.new }
-        ensures honest { ⊤ ↔ ⊤ }
-        ensures cause { HasCause self.old.failures self.new.failures result }
-        ensures remembers { OnOk result (calls_of self.new ≡ calls_of self.old ++ DiskCall.Len file ∷ []) }
-        ensures forgets { OnErr result (calls_of self.new ≡ calls_of self.old) }
+        ensures stays { StaysIn self.old self.new result }
+        ensures remembers { Remembers (DiskCall.Len file) self.old self.new result }
     {
         if self.calls.reserve(1).is_err() {
             return Err(self.fail());
@@ -212,11 +183,8 @@ impl Disk for MemDisk {
             new ≡ overwritten at bytes.now old) (now_of self.old) (now_of self.new)) }
         ensures left { ⊤ → Follows (OnFile file (Torn at (length bytes.now))) (MayLeave self.old)
             (MayLeave self.new) }
-        ensures time { GoesOnIn self.old self.new }
-        ensures honest { ⊤ ↔ ⊤ }
-        ensures cause { HasCause self.old.failures self.new.failures result }
-        ensures remembers { OnOk result (RemembersWrite file at bytes.now self.old self.new) }
-        ensures forgets { OnErr result (calls_of self.new ≡ calls_of self.old) }
+        ensures goes { GoesIn self.old self.new result }
+        ensures remembers { RemembersWrite file at bytes.now self.old self.new result }
     {
         match self.write(file, at, bytes) {
             Ok(()) => Ok(()),
@@ -229,11 +197,8 @@ impl Disk for MemDisk {
         ensures cut { ⊤ → OnOk result (OnFile file (λ old new.
             new ≡ take len old) (now_of self.old) (now_of self.new)) }
         ensures left { ⊤ → Follows (OnFile file (CutBack len)) (MayLeave self.old) (MayLeave self.new) }
-        ensures time { GoesOnIn self.old self.new }
-        ensures honest { ⊤ ↔ ⊤ }
-        ensures cause { HasCause self.old.failures self.new.failures result }
-        ensures remembers { OnOk result (calls_of self.new ≡ calls_of self.old ++ DiskCall.Cut file len ∷ []) }
-        ensures forgets { OnErr result (calls_of self.new ≡ calls_of self.old) }
+        ensures goes { GoesIn self.old self.new result }
+        ensures remembers { Remembers (DiskCall.Cut file len) self.old self.new result }
     {
         if self.calls.reserve(1).is_err() {
             return Err(self.fail());
@@ -245,13 +210,8 @@ impl Disk for MemDisk {
 
     fn sync(&mut self) -> Result<(), DiskFault>
         ensures durable { ⊤ → OnOk result (Only (now_of self.old) (MayLeave self.new)) }
-        ensures reads { ⊤ → now_of self.new ≡ now_of self.old }
-        ensures left { ⊤ → Within (MayLeave self.new) (MayLeave self.old) }
-        ensures time { GoesOnIn self.old self.new }
-        ensures honest { ⊤ ↔ ⊤ }
-        ensures cause { HasCause self.old.failures self.new.failures result }
-        ensures remembers { OnOk result (calls_of self.new ≡ calls_of self.old ++ DiskCall.Sync ∷ []) }
-        ensures forgets { OnErr result (calls_of self.new ≡ calls_of self.old) }
+        ensures stays { StaysIn self.old self.new result }
+        ensures remembers { Remembers DiskCall.Sync self.old self.new result }
     {
         if self.calls.reserve(1).is_err() {
             return Err(self.fail());

@@ -6,11 +6,16 @@ use Rattle.fleet_disk.proofs.Kept.{reads_push}
 use Rattle.fleet_disk.specs.Memory.{on_file, written}
 use Rattle.fleet_disk.proofs.memory.MemDisk.write.Goals as goal
 
-pub returns-clause-ok : goal.returns-clause-ok
-returns-clause-ok c =
-    let pushed = c.push_reserved.ensures.items ∙ ap (λ (l : List DiskCall). l ++ (Write c.args.file c.args.at c.in_ok-kept.kept) ∷ []) c.reserve.ensures.items in
-    let same : c.in_ok-kept.kept.items ≡ c.args.bytes.now = search rules in
-    (c.in_ok-kept.kept, same, pushed, c.in_ok-overwrite.ensures.ok)
+pub returns : goal.returns
+returns c = record {
+  ok =
+      let pushed = c.push_reserved.ensures.items ∙ ap (λ (l : List DiskCall). l ++ (Write c.args.file c.args.at c.in_ok-kept.kept) ∷ []) c.reserve.ensures.items in
+      let same : c.in_ok-kept.kept.items ≡ c.args.bytes.now = search rules in
+      (c.in_ok-kept.kept, same, pushed, c.in_ok-overwrite.ensures.ok);
+  err = tt;
+  first = search rules;
+  failures = search rules;
+}
 
 pub invariant_of-self-2 : goal.invariant_of-self-2
 invariant_of-self-2 c =

@@ -1,4 +1,4 @@
-use Rattle.std.proofs.Common.{length, [], ◌∷◌, ◌++◌, List, sym, ◌∙◌, ap, subst}
+use Rattle.std.proofs.Common.{rules, ◌≡◌, length, [], ◌∷◌, ◌++◌, List, sym, ◌∙◌, ap, subst}
 use Rattle.fleet_disk.specs.declared.call.DiskCall.{DiskCall}
 use Rattle.fleet_disk.specs.declared.call.DiskCall.TheVariants.{Read}
 use Rattle.fleet_disk.specs.Contents.{image_of}
@@ -12,13 +12,16 @@ invariant_of-self-2 c =
     let pushed = c.push_reserved.ensures.items ∙ ap (λ (l : List DiskCall). l ++ (Read c.args.file c.args.at (length c.args.buf.now)) ∷ []) c.reserve.ensures.items in
     record { kept = reads_push (image_of c.args.self.now.first) (image_of c.args.self.now.files) c.args.self.now.calls.items c.push_reserved.new.self.items (Read c.args.file c.args.at (length c.args.buf.now)) c.args.self.now.kept pushed }
 
-pub returns-clause-left : goal.returns-clause-left
-returns-clause-left c honest image left =
-    let pushed = c.push_reserved.ensures.items ∙ ap (λ (l : List DiskCall). l ++ (Read c.args.file c.args.at (length c.args.buf.now)) ∷ []) c.reserve.ensures.items in
-    let last = left_push (image_of c.args.self.now.first) (image_of c.args.self.now.files) c.args.self.now.calls.items c.push_reserved.new.self.items (Read c.args.file c.args.at (length c.args.buf.now)) c.args.self.now.kept pushed image left in
-    subst (λ (i : Image). MayLeave c.args.self.now i) (sym last.2) last.1
-
-pub returns-clause-time : goal.returns-clause-time
-returns-clause-time c honest =
-    let pushed = c.push_reserved.ensures.items ∙ ap (λ (l : List DiskCall). l ++ (Read c.args.file c.args.at (length c.args.buf.now)) ∷ []) c.reserve.ensures.items in
-    elapses_push (image_of c.args.self.now.first) c.args.self.now.calls.items c.push_reserved.new.self.items (Read c.args.file c.args.at (length c.args.buf.now)) pushed
+pub returns-clause-stays : goal.returns-clause-stays
+returns-clause-stays c = record {
+  reads = λ honest. search rules;
+  left = λ honest image left.
+      let last = left_push (image_of c.args.self.now.first) (image_of c.args.self.now.files) c.args.self.now.calls.items c.push_reserved.new.self.items (Read c.args.file c.args.at (length c.args.buf.now)) c.args.self.now.kept pushed image left in
+      subst (λ (i : Image). MayLeave c.args.self.now i) (sym last.2) last.1;
+  time = λ honest. elapses_push (image_of c.args.self.now.first) c.args.self.now.calls.items c.push_reserved.new.self.items (Read c.args.file c.args.at (length c.args.buf.now)) pushed;
+  honest = search rules;
+  cause = search rules;
+}
+  where
+    pushed : c.push_reserved.new.self.items ≡ c.args.self.now.calls.items ++ (Read c.args.file c.args.at (length c.args.buf.now)) ∷ []
+    pushed = c.push_reserved.ensures.items ∙ ap (λ (l : List DiskCall). l ++ (Read c.args.file c.args.at (length c.args.buf.now)) ∷ []) c.reserve.ensures.items

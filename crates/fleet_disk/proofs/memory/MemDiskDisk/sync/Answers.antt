@@ -1,4 +1,4 @@
-use Rattle.std.proofs.Common.{[], ◌∷◌, ◌++◌, List, sym, ◌∙◌, ap, subst}
+use Rattle.std.proofs.Common.{rules, ◌≡◌, [], ◌∷◌, ◌++◌, List, sym, ◌∙◌, ap, subst}
 use Rattle.fleet_disk.specs.declared.call.DiskCall.{DiskCall}
 use Rattle.fleet_disk.specs.declared.call.DiskCall.TheVariants.{Sync}
 use Rattle.fleet_disk.specs.Contents.{image_of}
@@ -10,21 +10,24 @@ use Rattle.fleet_disk.proofs.memory.MemDiskDisk.sync.Goals as goal
 
 pub invariant_of-self-2 : goal.invariant_of-self-2
 invariant_of-self-2 c =
-    let pushed = c.push_reserved.ensures.items ∙ ap (λ (l : List DiskCall). l ++ (Sync) ∷ []) c.reserve.ensures.items in
-    record { kept = reads_push (image_of c.args.self.now.first) (image_of c.args.self.now.files) c.args.self.now.calls.items c.push_reserved.new.self.items (Sync) c.args.self.now.kept pushed }
+    let pushed = c.push_reserved.ensures.items ∙ ap (λ (l : List DiskCall). l ++ Sync ∷ []) c.reserve.ensures.items in
+    record { kept = reads_push (image_of c.args.self.now.first) (image_of c.args.self.now.files) c.args.self.now.calls.items c.push_reserved.new.self.items Sync c.args.self.now.kept pushed }
 
-pub returns-clause-left : goal.returns-clause-left
-returns-clause-left c honest image left =
-    let pushed = c.push_reserved.ensures.items ∙ ap (λ (l : List DiskCall). l ++ (Sync) ∷ []) c.reserve.ensures.items in
-    let last = left_push (image_of c.args.self.now.first) (image_of c.args.self.now.files) c.args.self.now.calls.items c.push_reserved.new.self.items (Sync) c.args.self.now.kept pushed image left in
-    subst (λ (i : Image). MayLeave c.args.self.now i) (c.args.self.now.kept ∙ sym last.2) (read_is_left (image_of c.args.self.now.first) c.args.self.now.calls.items)
+pub returns-clause-stays : goal.returns-clause-stays
+returns-clause-stays c = record {
+  reads = λ honest. search rules;
+  left = λ honest image left.
+      let last = left_push (image_of c.args.self.now.first) (image_of c.args.self.now.files) c.args.self.now.calls.items c.push_reserved.new.self.items Sync c.args.self.now.kept pushed image left in
+      subst (λ (i : Image). MayLeave c.args.self.now i) (c.args.self.now.kept ∙ sym last.2) (read_is_left (image_of c.args.self.now.first) c.args.self.now.calls.items);
+  time = λ honest. elapses_push (image_of c.args.self.now.first) c.args.self.now.calls.items c.push_reserved.new.self.items Sync pushed;
+  honest = search rules;
+  cause = search rules;
+}
+  where
+    pushed : c.push_reserved.new.self.items ≡ c.args.self.now.calls.items ++ Sync ∷ []
+    pushed = c.push_reserved.ensures.items ∙ ap (λ (l : List DiskCall). l ++ Sync ∷ []) c.reserve.ensures.items
 
 pub returns-clause-durable : goal.returns-clause-durable
 returns-clause-durable c honest image left =
-    let pushed = c.push_reserved.ensures.items ∙ ap (λ (l : List DiskCall). l ++ (Sync) ∷ []) c.reserve.ensures.items in
-    (left_push (image_of c.args.self.now.first) (image_of c.args.self.now.files) c.args.self.now.calls.items c.push_reserved.new.self.items (Sync) c.args.self.now.kept pushed image left).2
-
-pub returns-clause-time : goal.returns-clause-time
-returns-clause-time c honest =
-    let pushed = c.push_reserved.ensures.items ∙ ap (λ (l : List DiskCall). l ++ (Sync) ∷ []) c.reserve.ensures.items in
-    elapses_push (image_of c.args.self.now.first) c.args.self.now.calls.items c.push_reserved.new.self.items (Sync) pushed
+    let pushed = c.push_reserved.ensures.items ∙ ap (λ (l : List DiskCall). l ++ Sync ∷ []) c.reserve.ensures.items in
+    (left_push (image_of c.args.self.now.first) (image_of c.args.self.now.files) c.args.self.now.calls.items c.push_reserved.new.self.items Sync c.args.self.now.kept pushed image left).2
