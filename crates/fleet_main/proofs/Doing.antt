@@ -7,6 +7,7 @@ use Rattle.std.proofs.lemmas.Bool.{true≢false}
 use Rattle.jiff_core.specs.declared.civil.datetime.DateTime.{DateTime}
 use Rattle.dump_text.specs.Streams.{dump_by, records_of}
 use Rattle.fleet_disk.specs.Image.{Image, no_bytes}
+use Rattle.fleet_disk.specs.Lasting.{KeepsNames}
 use Rattle.fleet_disk.specs.declared.disk.Disk.{Ghosts}
 use Rattle.node_base.specs.Path.{Path}
 use Rattle.node_base.specs.PathText.{path_read}
@@ -28,6 +29,7 @@ use Rattle.store_engines.specs.declared.range.RevRange.{RevRange}
 use Rattle.fleet_main.specs.Doing.{EndsWith, HandsOn, IsBegun, IsBegunIn, IsCommittedTo, IsDumped, IsHeadOf, IsKept, IsKeptOr, IsLoadedFrom, IsOpenedIn, IsOpenedOn, NoHeadOf, NotCommittedTo, NotDumped, NotLoadedFrom, OfStanding, UnopenedOr, head_line, not_done, not_handed_on}
 use Rattle.fleet_main.specs.Loans.{TakesBack}
 use Rattle.fleet_main.specs.declared.lending.Folders.{Ghosts as FolderGhosts}
+use Rattle.fleet_main.proofs.Lasting.{still_made}
 use Rattle.fleet_main.proofs.Loans.{one_back}
 
 -- of a store whose disk is honest and hasn't failed a stop leaves what keeps its repository
@@ -138,12 +140,14 @@ module _ {F D : Type 0} (G : Ghosts D) (H : FolderGhosts F D) (folders then late
       inr (standing (NoHeadOf (H.honest folders) fails e) store store o back (λ h. h) (refl, only, failed, kept_opened (H.honest folders) o.0 store o.2 k))
 
   -- a repository is begun
-  pub begun : (identity : List ℕ) (store : RepoStore D G) → IsBegunIn G H folders then folder identity store → TakesBack G H then later folder (disk_of store) → IsBegun G H folders later folder identity
-  begun identity store b back = record {
+  pub begun : (identity : List ℕ) (store : RepoStore D G) → IsBegunIn G H folders then folder identity store → TakesBack G H then later folder (disk_of store) → KeepsNames H.lasts then later
+      → IsBegun G H folders later folder identity
+  begun identity store b back names = record {
     given = b.0;
     store = store;
     begun = b.2;
     back = one_back G H folders then later folder b.0 (disk_of store) b.1 (λ h. (b.2.kept h).0) back;
+    lasts = λ h. still_made G H folders then folder later names (b.3 h);
   }
 
 -- what is done is handed on

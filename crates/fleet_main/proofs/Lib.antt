@@ -1,6 +1,7 @@
 pub mod Brought
 pub mod Doing
 pub mod Dumping
+pub mod Lasting
 pub mod Loans
 pub mod Mirroring
 pub mod Opening

@@ -5,13 +5,16 @@ use Rattle.std.specs.List.{filter, flat_map}
 use Rattle.std.specs.Io.KnownBytes.{Appends, Keeps as HandedOn}
 use Rattle.jiff_core.specs.declared.civil.datetime.DateTime.{DateTime}
 use Rattle.dump_text.specs.Streams.{dump_by, records_of}
+use Rattle.fleet_disk.specs.FolderFiles.{path_in}
 use Rattle.fleet_disk.specs.Image.{Image, no_bytes}
+use Rattle.fleet_disk.specs.Lasting.{IsMadeToLast}
 use Rattle.fleet_disk.specs.Rules.{LeavesOnly, Only, Rose}
 use Rattle.fleet_disk.specs.declared.disk.Disk.{Ghosts}
+use Rattle.fleet_disk.specs.declared.disk.DiskFile.{DiskFile}
 use Rattle.gate_log.specs.Log.{version_of}
 use Rattle.gate_log.specs.Standing.{IsBlank, IsEither}
 use Rattle.gate_log.specs.Version.{HaveOneVersion, IsOf}
-use Rattle.gate_log.specs.declared.version.LogVersion.TheVariants.{Second}
+use Rattle.gate_log.specs.declared.version.LogVersion.TheVariants.{First, Second}
 use Rattle.node_base.specs.Path.{Path}
 use Rattle.node_base.specs.PathText.{path_read}
 use Rattle.node_base.specs.declared.refusal.Refusal.{Refusal}
@@ -95,16 +98,18 @@ pub record IsBegunOn {D : Type 0} (G : Ghosts D) (honest : Type 0) (identity : L
   -- a stop at any moment leaves no entry, or one that begins the repository
   pub any_moment : honest → Only no_bytes (G.may_leave given) → LeavesOnly G.clock G.left_since given (disk_of store) (λ image. IsBlank image ⊎ IsEither [] (beginning_of identity) image)
 
--- a folder's disk is lent, and a store is begun on it
+-- a folder's disk is lent, and a store is begun on it; a stop leaves what was made of the folder
 abbrev pub IsBegunIn : {F D : Type 0} (G : Ghosts D) → FolderGhosts F D → F → F → List ℕ → List ℕ → RepoStore D G → Type 0
-IsBegunIn {F} {D} G H folders later folder identity store = (given : D) × IsLent G H folders later folder given × IsBegunOn G (H.honest folders) identity given store
+IsBegunIn {F} {D} G H folders later folder identity store =
+    (given : D) × IsLent G H folders later folder given × IsBegunOn G (H.honest folders) identity given store × (H.honest folders → IsMadeToLast H.honest H.lacks H.lasts folders later folder)
 
--- a repository is begun in a folder, which has the store's disk then, while other folders stay
+-- a repository is begun in a folder, which has the store's disk then, while other folders stay; a stop leaves the folder's files, and the folder where it wasn't there
 pub record IsBegun {F D : Type 0} (G : Ghosts D) (H : FolderGhosts F D) (folders later : F) (folder identity : List ℕ) : Type 0 where
   pub given : D
   pub store : RepoStore D G
   pub begun : IsBegunOn G (H.honest folders) identity given store
   pub back : AreBack G H folders later (only_of folder given (disk_of store))
+  pub lasts : H.honest folders → IsMadeToLast H.honest H.lacks H.lasts folders later folder
 
 -- what a load of these bytes, in which texts may be given as deltas or may not, did to a store and its device
 abbrev pub ServesLoad : {D : Type 0} {G : Ghosts D} → Bool → Option (List ℕ) → RepoStore D G → RepoStore D G → Result (Unit {0}) Refusal → Type 0
@@ -248,7 +253,11 @@ IsHeadOf honest before now old new = (new ≡ old) × Appends before now (head_l
 abbrev pub NoHeadOf : {D : Type 0} {G : Ghosts D} → Type 0 → Type 0 → Refusal → RepoStore D G → RepoStore D G → Type 0
 NoHeadOf honest fails e old new = (new ≡ old) × (e ≡ refusal.PeerFailed) × fails × IsKept honest old
 
--- a store is opened on a folder's disk; of it and the disk that came back P is so, and the folder has that disk then, while other folders stay
+-- where the entries of a store's log have no sums, a stop leaves the files of its folder
+abbrev pub FilesLast : {F D : Type 0} → (G : Ghosts D) → FolderGhosts F D → F → F → List ℕ → RepoStore D G → Type 0
+FilesLast G H folders later folder store = H.honest folders → version_of (log_of store) ≡ First → (file : DiskFile) → H.lasts later (path_in folder file)
+
+-- a store is opened on a folder's disk; of it and the disk that came back P is so, and the folder has that disk then, while other folders stay; a stop leaves the files that an upgrade is written to
 pub record OfUpgrade {F D : Type 0} (G : Ghosts D) (H : FolderGhosts F D) (folders later : F) (folder : List ℕ) (P : RepoStore D G → D → Type 0) : Type 0 where
   pub given : D
   pub old : RepoStore D G
@@ -256,6 +265,7 @@ pub record OfUpgrade {F D : Type 0} (G : Ghosts D) (H : FolderGhosts F D) (folde
   pub opened : IsOpenedOn G (H.honest folders) given old
   pub done : P old left
   pub back : AreBack G H folders later (only_of folder given left)
+  pub lasts : FilesLast G H folders later folder old
 
 -- a command is done over folders, with these bytes to read: of an output that held `before`, what it holds now
 abbrev pub IsDone : {F D : Type 0} → Ghosts D → FolderGhosts F D → F → F → Command → Option (List ℕ) → Option (List ℕ) → Option (List ℕ) → Type 0

@@ -1,12 +1,12 @@
 //! Mirrors in folders that are brought up to their master at once.
 ghost use Rattle.std.specs.Prelude.{◌≡◌, ◌≢◌, ◌≤◌, ◌+◌, ◌⊎◌, ◌∷◌, ℕ, None, Ok, [], true, false, length, map};
 ghost use Rattle.std.specs.Prelude.{string_bytes, vec_capacity, vec_len, IfErr, IfOk, OnOk};
-ghost use Rattle.fleet_disk.specs.Lending.{MakesNothing};
 ghost use Rattle.repo_store.specs.Words.{IsKept as StoreIsKept, IfSound, StopKeeps};
 ghost use Rattle.fleet_shares.specs.Stores.{store_at};
 ghost use Rattle.fleet_main.specs.Bringing.{AreBrought, NotBrought};
 ghost use Rattle.fleet_main.specs.Bringing.{DeliversFleet, DoesFleet, EndsFleet, FailsAtFleet, GivesBack};
 ghost use Rattle.fleet_main.specs.Bringing.{RefusesFleet, RunsMirrors, SucceedsAtFleet};
+ghost use Rattle.fleet_main.specs.Making.{PathsStay};
 ghost use Rattle.command_words.specs.Twice.{first_twice};
 
 use crate::execute::refused;
@@ -47,7 +47,7 @@ fn slot_closed<F: Folders>(
     ensures back { GivesBack F.Place.Disk F.Folders folders.old folders.new stores slot folder.now }
     ensures others { (other : ℕ) → other ≢ slot → store_at result other ≡ store_at stores other }
     ensures master { result.master ≡ stores.master }
-    ensures nothing { MakesNothing F.lacks folders.old folders.new }
+    ensures paths { PathsStay F.lacks F.lasts folders.old folders.new }
 {
     let mut stores = stores;
     match stores.take(slot) {
@@ -78,7 +78,7 @@ where
     requires apart { first_twice (map string_bytes names.now) ≡ None }
     ensures brought { AreBrought F.Place.Disk F.Folders folders.old folders.new (map string_bytes names.now)
         refusals.items stores result.0 result.1 }
-    ensures nothing { MakesNothing F.lacks folders.old folders.new }
+    ensures paths { PathsStay F.lacks F.lasts folders.old folders.new }
 {
     let Some((name, names)) = names.split_first() else {
         return run_fleet(rt, alloc, stores, refusals, workers, Unheld);
@@ -118,7 +118,7 @@ where
         (map string_bytes mirrors.now) result }
     ensures refused { IfErr result (NotBrought F.Place.Disk F.Folders folders.old folders.new master.now
         (map string_bytes mirrors.now)) }
-    ensures nothing { MakesNothing F.lacks folders.old folders.new }
+    ensures paths { PathsStay F.lacks F.lasts folders.old folders.new }
 {
     let Ok(refusals) = Vec::with_capacity(alloc, MIRRORS) else {
         return Err(Refusal::OutOfMemory);
@@ -163,7 +163,7 @@ where
     ensures refused { RefusesFleet F.Place.Disk F.Folders O.Output folders.old folders.new output.old output.new
         fleet.now result }
     ensures unfailed { OnOk result (O.failures output.new ≡ O.failures output.old) }
-    ensures nothing { MakesNothing F.lacks folders.old folders.new }
+    ensures paths { PathsStay F.lacks F.lasts folders.old folders.new }
 {
     let master = fleet.master.as_str();
     let mirrors = fleet.mirrors.as_slice();
@@ -196,7 +196,7 @@ where
         result.1 }
     ensures handed { OnOk result.1 (O.is_handed_on result.0) }
     ensures unfailed { OnOk result.1 (O.failures result.0 ≡ O.failures output) }
-    ensures nothing { MakesNothing F.lacks folders.old folders.new }
+    ensures paths { PathsStay F.lacks F.lasts folders.old folders.new }
 {
     let mut output = output;
     let told = fleet_told(rt, alloc, folders, fleet, &mut output);
@@ -232,7 +232,7 @@ pub fn fleet<
 where
     F::Place: Send + 'static,
     ensures status { (result.0 ≡ 0) ⊎ (result.0 ≡ 1) }
-    ensures nothing { MakesNothing F.lacks folders.old folders.new }
+    ensures paths { PathsStay F.lacks F.lasts folders.old folders.new }
     ensures done { SucceedsAtFleet F.Place.Disk F.Folders O.Output folders.old folders.new output result.1 fleet.now
         result.0 }
     ensures handed { result.0 ≡ 0 → O.is_handed_on result.1 }

@@ -12,8 +12,8 @@ ghost use Rattle.fleet_main.specs.Doing.{IsBegun};
 ghost use Rattle.fleet_main.specs.Doing.{BroughtOn};
 ghost use Rattle.fleet_main.specs.Ending.{IsStreamFailure, StreamsWork, TellsLine};
 ghost use Rattle.svn_ends.specs.Runs.{IsOutputFailure};
-ghost use Rattle.fleet_disk.specs.Lending.{MakesIn, MakesNothing};
-ghost use Rattle.fleet_main.specs.Making.{MakesFor};
+ghost use Rattle.fleet_disk.specs.Lending.{MakesIn};
+ghost use Rattle.fleet_main.specs.Making.{MakesFor, PathsStay};
 ghost use Rattle.fleet_main.specs.Opening.{NotBegunIn};
 
 use crate::folders::{closed, created, opened, opened_to_upgrade};
@@ -70,7 +70,7 @@ fn load<F: Folders, I: Input, O: Output + Drop>(
     ensures refused { RefusesLoad F.Place.Disk F.Folders I.Input O.Output folders.old folders.new input.old output.old
         output.new deltas folder.now result }
     ensures peer { BothCounted result (counts I.failures I.reads input.old input.new) (O.failures output.old) (O.failures output.new) }
-    ensures nothing { MakesNothing F.lacks folders.old folders.new }
+    ensures paths { PathsStay F.lacks F.lasts folders.old folders.new }
 {
     match opened(alloc, folders, folder) {
         Ok(store) => {
@@ -95,7 +95,7 @@ fn dump<F: Folders, O: Output + Drop>(
     ensures refused { RefusesDump F.Place.Disk F.Folders O.Output folders.old folders.new output.old output.new
         folder.now range result }
     ensures peer { Counted result (O.failures output.old) (O.failures output.new) }
-    ensures nothing { MakesNothing F.lacks folders.old folders.new }
+    ensures paths { PathsStay F.lacks F.lasts folders.old folders.new }
 {
     match opened(alloc, folders, folder) {
         Ok(store) => {
@@ -118,7 +118,7 @@ fn head<F: Folders, O: Output + Drop>(
     ensures refused { RefusesHead F.Place.Disk F.Folders O.Output folders.old folders.new output.old output.new
         folder.now result }
     ensures peer { Counted result (O.failures output.old) (O.failures output.new) }
-    ensures nothing { MakesNothing F.lacks folders.old folders.new }
+    ensures paths { PathsStay F.lacks F.lasts folders.old folders.new }
 {
     match opened(alloc, folders, folder) {
         Ok(store) => {
@@ -144,7 +144,7 @@ fn make_dir<F: Folders, O: Output + Drop>(
     ensures refused { RefusesDir F.Place.Disk F.Folders O.Output folders.old folders.new output.old output.new
         folder.now path.now message.now moment result }
     ensures peer { Counted result (O.failures output.old) (O.failures output.new) }
-    ensures nothing { MakesNothing F.lacks folders.old folders.new }
+    ensures paths { PathsStay F.lacks F.lasts folders.old folders.new }
 {
     match opened(alloc, folders, folder) {
         Ok(store) => {
@@ -191,7 +191,7 @@ fn info<F: Folders, O: Output + Drop>(
     ensures refused { RefusesInfo F.Place.Disk F.Folders O.Output folders.old folders.new output.old output.new
         mirror.now result }
     ensures peer { Counted result (O.failures output.old) (O.failures output.new) }
-    ensures nothing { MakesNothing F.lacks folders.old folders.new }
+    ensures paths { PathsStay F.lacks F.lasts folders.old folders.new }
 {
     match opened(alloc, folders, mirror) {
         Ok(store) => {
@@ -217,7 +217,7 @@ fn mirrored<F: Folders, O: Output + Drop>(
     ensures refused { RefusesWork F.Place.Disk F.Folders O.Output folders.old folders.new output result.0 mirror.now
         source.now work result.1 }
     ensures unfailed { OnOk result.1 (O.failures result.0 ≡ O.failures output) }
-    ensures nothing { MakesNothing F.lacks folders.old folders.new }
+    ensures paths { PathsStay F.lacks F.lasts folders.old folders.new }
     ensures peer { IsOutputFailure O.Output output result.0 result.1 }
 {
     match opened(alloc, folders, mirror) {
@@ -245,7 +245,7 @@ fn mirrored_from<F: Folders, O: Output + Drop>(
         result.1 source.now work result.2 }
     ensures rules { ¬ HasFailed mirror → F.Place.honest (disk_of mirror) → F.Place.honest (disk_of result.0) }
     ensures unfailed { OnOk result.2 (O.failures result.1 ≡ O.failures output) }
-    ensures nothing { MakesNothing F.lacks folders.old folders.new }
+    ensures paths { PathsStay F.lacks F.lasts folders.old folders.new }
     ensures peer { IsOutputFailure O.Output output result.1 result.2 }
 {
     match opened(alloc, folders, source) {
@@ -288,7 +288,7 @@ fn initialize<F: Folders, O: Output + Drop>(
     ensures refused { RefusesInitialize F.Place.Disk F.Folders O.Output folders.old folders.new output result.0
         mirror.now source.now result.1 }
     ensures unfailed { OnOk result.1 (O.failures result.0 ≡ O.failures output) }
-    ensures nothing { MakesNothing F.lacks folders.old folders.new }
+    ensures paths { PathsStay F.lacks F.lasts folders.old folders.new }
     ensures peer { IsOutputFailure O.Output output result.0 result.1 }
 {
     match url_of(alloc, source) {
@@ -335,7 +335,7 @@ fn run_one<F: Folders, I: Input, O: Output + Drop>(
     ensures refused { RefusesCommand F.Place.Disk F.Folders I.Input O.Output folders.old folders.new input.old output
         result.0 command result.1 }
     ensures unfailed { OnOk result.1 (StreamsWork I.Input O.Output input.old input.new output result.0) }
-    ensures made { MakesFor F.lacks command folders.old folders.new }
+    ensures made { MakesFor F.lacks F.lasts command folders.old folders.new }
     ensures peer { IsStreamFailure I.Input O.Output input.old input.new output result.0 result.1 }
 {
     let mut output = output;
@@ -439,7 +439,7 @@ fn run_flushed<F: Folders, I: Input, O: Output + Drop>(
         result.0 command result.1 }
     ensures handed { OnOk result.1 (O.is_handed_on result.0) }
     ensures unfailed { OnOk result.1 (StreamsWork I.Input O.Output input.old input.new output result.0) }
-    ensures made { MakesFor F.lacks command folders.old folders.new }
+    ensures made { MakesFor F.lacks F.lasts command folders.old folders.new }
     ensures peer { IsStreamFailure I.Input O.Output input.old input.new output result.0 result.1 }
 {
     let (output, done) = run_one(alloc, folders, command, input, output);
@@ -457,7 +457,9 @@ fn run_flushed<F: Folders, I: Input, O: Output + Drop>(
 ///
 /// Of honest folders it says besides what repository the folder's disk kept, what the command made of it, and what a
 /// stop leaves at each moment and afterwards: the folder has that disk again in the end, and every other folder what it
-/// had. Of the commands over a mirror and its source it says this of both. Folders that were honest still are.
+/// had. Of the commands over a mirror and its source it says this of both. Folders that were honest still are. Once
+/// `create` or `upgrade` is done a stop leaves the folder and the files that it made; any other command keeps what a stop
+/// left.
 pub fn run<F: Folders, I: Input, O: Output + Drop, E: Output>(
     alloc: Global,
     folders: &mut F,
@@ -467,7 +469,7 @@ pub fn run<F: Folders, I: Input, O: Output + Drop, E: Output>(
     errors: &mut E,
 ) -> (u8, O)
     ensures status { (result.0 ≡ 0) ⊎ (result.0 ≡ 1) }
-    ensures made { MakesFor F.lacks command folders.old folders.new }
+    ensures made { MakesFor F.lacks F.lasts command folders.old folders.new }
     ensures done { SucceedsAtCommand F.Place.Disk F.Folders I.Input O.Output folders.old folders.new input.old output
         result.1 command result.0 }
     ensures handed { result.0 ≡ 0 → O.is_handed_on result.1 }

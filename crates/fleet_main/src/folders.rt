@@ -1,10 +1,11 @@
 //! Folders, each the place of a repository.
 ghost use Rattle.std.specs.Prelude.{◌≡◌, IfOk, IfErr};
-ghost use Rattle.fleet_disk.specs.Lending.{MakesIn, MakesNothing};
+ghost use Rattle.fleet_disk.specs.Lending.{MakesIn};
 ghost use Rattle.repo_store.specs.Words.{disk_of, IsKept, IfSound, StopKeeps};
-ghost use Rattle.fleet_main.specs.Doing.{IsBegunIn, IsOpenedIn};
+ghost use Rattle.fleet_main.specs.Doing.{FilesLast, IsBegunIn, IsOpenedIn};
 ghost use Rattle.fleet_main.specs.Host.{calls_of};
 ghost use Rattle.fleet_main.specs.Loans.{TakesBack};
+ghost use Rattle.fleet_main.specs.Making.{PathsStay};
 ghost use Rattle.fleet_main.specs.Opening.{NotBegunIn, NotOpenedIn, folder_refusal};
 
 use crate::lending::Folders;
@@ -39,6 +40,8 @@ impl<C: FolderCalls + Drop> Folders for HostFolders<C> {
     ghost disk = { λ folders folder. C.disk folders.calls folder };
 
     ghost lacks = { λ folders path. C.lacks folders.calls path };
+
+    ghost lasts = { λ folders path. C.lasts folders.calls path };
 
     ghost failures = { λ folders. C.failures folders.calls };
 
@@ -79,7 +82,7 @@ pub fn closed<F: Folders>(folders: &mut F, folder: &str, store: RepoStore<F::Pla
     ensures back { TakesBack F.Place.Disk F.Folders folders.old folders.new folder.now (disk_of store) }
     ensures kept { IfSound store (StopKeeps store) }
     ensures either { IsKept store }
-    ensures nothing { MakesNothing F.lacks folders.old folders.new }
+    ensures paths { PathsStay F.lacks F.lasts folders.old folders.new }
 {
     let _repo = store.repo();
     folders.close(folder, store.leave());
@@ -87,7 +90,8 @@ pub fn closed<F: Folders>(folders: &mut F, folder: &str, store: RepoStore<F::Pla
 
 /// Begins a repository in a folder, which is made where it is missing; the folder's disk is lent then. ThereAlready (35)
 /// where the folder has one, DeviceFailed (31) where the host or the folder's disk fails, OutOfMemory (70). After a
-/// refusal the folder has its disk.
+/// refusal the folder has its disk. Once a repository is begun a stop leaves the folder's files, and the folder where it
+/// was made.
 pub fn created<F: Folders>(
     alloc: Global,
     folders: &mut F,
@@ -123,7 +127,7 @@ pub fn opened<F: Folders>(
     ensures opened { IfOk result (IsOpenedIn F.Place.Disk F.Folders folders.old folders.new folder.now) }
     ensures refused { IfErr result (NotOpenedIn F.Place.Disk F.Folders folders.old folders.new folder.now) }
     ensures no_peer { IfErr result (λ e. e ≡ Refusal.PeerFailed → ⊥) }
-    ensures nothing { MakesNothing F.lacks folders.old folders.new }
+    ensures paths { PathsStay F.lacks F.lasts folders.old folders.new }
 {
     if folder.is_empty() {
         return Err(Refusal::NoRepository);
@@ -140,7 +144,8 @@ pub fn opened<F: Folders>(
     }
 }
 
-/// The same of a folder whose entries are to be given their sums.
+/// The same of a folder whose entries are to be given their sums. Where they have none yet, a stop leaves the folder's
+/// files.
 pub fn opened_to_upgrade<F: Folders>(
     alloc: Global,
     folders: &mut F,
@@ -149,6 +154,7 @@ pub fn opened_to_upgrade<F: Folders>(
     ensures opened { IfOk result (IsOpenedIn F.Place.Disk F.Folders folders.old folders.new folder.now) }
     ensures refused { IfErr result (NotOpenedIn F.Place.Disk F.Folders folders.old folders.new folder.now) }
     ensures no_peer { IfErr result (λ e. e ≡ Refusal.PeerFailed → ⊥) }
+    ensures lasting { IfOk result (FilesLast F.Place.Disk F.Folders folders.old folders.new folder.now) }
     ensures nothing_else { MakesIn F.lacks folder.now folders.old folders.new }
 {
     if folder.is_empty() {

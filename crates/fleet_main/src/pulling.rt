@@ -1,12 +1,12 @@
 //! A mirror over a source that a server has.
 ghost use Rattle.std.specs.Prelude.{◌≡◌, ◌⊎◌, IfErr, IfOk, OnOk};
-ghost use Rattle.fleet_disk.specs.Lending.{MakesNothing};
 ghost use Rattle.repo_store.specs.Words.{disk_of, HasFailed};
 ghost use Rattle.mirror_engines.specs.Runs.{IsWorked};
 ghost use Rattle.fleet_main.specs.Doing.{WorkedOn, untold};
 ghost use Rattle.fleet_main.specs.Pulling.{NotKeptFor, work_as};
 ghost use Rattle.fleet_main.specs.Pulling.{DeliversPull, DoesPull, EndsPull, FailsAtPull, RefusesPull, RefusesPullOn};
 ghost use Rattle.fleet_main.specs.Pulling.{RefusesWorkIn, SucceedsAtPull, WorksIn};
+ghost use Rattle.fleet_main.specs.Making.{PathsStay};
 
 use crate::execute::{refused, url_of};
 use crate::folders::{closed, opened};
@@ -76,7 +76,7 @@ fn pull_folder<R: Net<Stream = TcpStream>, F: Folders, O: Output + Drop>(
     ensures refused { RefusesWorkIn F.Place.Disk F.Folders O.Output folders.old folders.new output result.0 mirror.now
         work result.1 }
     ensures unfailed { OnOk result.1 (O.failures result.0 ≡ O.failures output) }
-    ensures nothing { MakesNothing F.lacks folders.old folders.new }
+    ensures paths { PathsStay F.lacks F.lasts folders.old folders.new }
 {
     match opened(alloc, folders, mirror) {
         Ok(store) => {
@@ -100,7 +100,7 @@ fn pull_asked<R: Net<Stream = TcpStream>, F: Folders, O: Output + Drop>(
     ensures refused { RefusesPull F.Place.Disk F.Folders O.Output folders.old folders.new output result.0 pull
         result.1 }
     ensures unfailed { OnOk result.1 (O.failures result.0 ≡ O.failures output) }
-    ensures nothing { MakesNothing F.lacks folders.old folders.new }
+    ensures paths { PathsStay F.lacks F.lasts folders.old folders.new }
 {
     let Pull {
         mirror,
@@ -139,7 +139,7 @@ fn pull_flushed<R: Net<Stream = TcpStream>, F: Folders, O: Output + Drop>(
     ensures refused { EndsPull F.Place.Disk F.Folders O.Output folders.old folders.new output result.0 pull result.1 }
     ensures handed { OnOk result.1 (O.is_handed_on result.0) }
     ensures unfailed { OnOk result.1 (O.failures result.0 ≡ O.failures output) }
-    ensures nothing { MakesNothing F.lacks folders.old folders.new }
+    ensures paths { PathsStay F.lacks F.lasts folders.old folders.new }
 {
     let (output, done) = pull_asked(rt, alloc, folders, pull, output);
     let mut output = output;
@@ -169,7 +169,7 @@ pub fn pull<R: Net<Stream = TcpStream>, F: Folders, O: Output + Drop, E: Output>
     errors: &mut E,
 ) -> (u8, O)
     ensures status { (result.0 ≡ 0) ⊎ (result.0 ≡ 1) }
-    ensures nothing { MakesNothing F.lacks folders.old folders.new }
+    ensures paths { PathsStay F.lacks F.lasts folders.old folders.new }
     ensures done { SucceedsAtPull F.Place.Disk F.Folders O.Output folders.old folders.new output result.1 pull
         result.0 }
     ensures handed { result.0 ≡ 0 → O.is_handed_on result.1 }

@@ -7,10 +7,10 @@ ghost use Rattle.repo_store.specs.Words.{revisions_of, IfSound, StopKeeps};
 ghost use Rattle.sockets.specs.Lines.{listening};
 ghost use Rattle.store_engines.specs.Mirrors.{is_mirror};
 ghost use Rattle.svn_ends.specs.Served.{IsOfStore};
-ghost use Rattle.fleet_disk.specs.Lending.{MakesNothing};
 ghost use Rattle.fleet_main.specs.Serving.{IsServerFault};
 ghost use Rattle.fleet_main.specs.Serving.{DeliversService, DoesService, EndsService, FailsAtService, RefusesService};
 ghost use Rattle.fleet_main.specs.Serving.{RefusesServing, ServesIn, SucceedsAtService};
+ghost use Rattle.fleet_main.specs.Making.{PathsStay};
 
 use crate::execute::refused;
 use crate::folders::opened;
@@ -154,7 +154,7 @@ where
     ensures refused { RefusesServing F.Place.Disk F.Folders O.Output folders.old folders.new output result.0 folder.now
         result.1 }
     ensures unfailed { OnOk result.1 (O.failures result.0 ≡ O.failures output) }
-    ensures nothing { MakesNothing F.lacks folders.old folders.new }
+    ensures paths { PathsStay F.lacks F.lasts folders.old folders.new }
 {
     match opened(alloc, folders, folder) {
         Ok(store) => {
@@ -189,7 +189,7 @@ where
     ensures refused { RefusesService F.Place.Disk F.Folders O.Output folders.old folders.new output result.0 service.now
         result.1 }
     ensures unfailed { OnOk result.1 (O.failures result.0 ≡ O.failures output) }
-    ensures nothing { MakesNothing F.lacks folders.old folders.new }
+    ensures paths { PathsStay F.lacks F.lasts folders.old folders.new }
 {
     let folder = service.folder.as_str();
     let address = address_of(service);
@@ -222,7 +222,7 @@ where
         result.1 }
     ensures handed { OnOk result.1 (O.is_handed_on result.0) }
     ensures unfailed { OnOk result.1 (O.failures result.0 ≡ O.failures output) }
-    ensures nothing { MakesNothing F.lacks folders.old folders.new }
+    ensures paths { PathsStay F.lacks F.lasts folders.old folders.new }
 {
     let (output, done) = serve_asked(rt, alloc, folders, service, teller, output);
     let mut output = output;
@@ -261,7 +261,7 @@ pub fn serve<
 where
     F::Place: Send,
     ensures status { (result.0 ≡ 0) ⊎ (result.0 ≡ 1) }
-    ensures nothing { MakesNothing F.lacks folders.old folders.new }
+    ensures paths { PathsStay F.lacks F.lasts folders.old folders.new }
     ensures done { SucceedsAtService F.Place.Disk F.Folders O.Output folders.old folders.new output result.1 service.now
         result.0 }
     ensures handed { result.0 ≡ 0 → O.is_handed_on result.1 }

@@ -1,3 +1,4 @@
+use Rattle.fleet_main.proofs.Lasting.{begun_lasts}
 use Rattle.fleet_main.proofs.Loans.{not_lent}
 use Rattle.fleet_main.proofs.Opening.{begin_refused, begin_unlent, begun_on, unbegun}
 use Rattle.fleet_main.proofs.folders.created.Goals as goal
@@ -9,6 +10,7 @@ returns-in-Ok-create-clause-begun g c =
       c.in-Ok.disk,
       record { given = l.lends.given; rules = l.lends.rules; lent = l.lends.lent; others = l.lends.others; honest = l.lends.sound; later = c.create.ensures.later },
       begun_on g.F.Place.Disk (g.F.Folders.honest c.args.folders.now) c.args.identity c.in-Ok.disk c.in-Ok-create.store l.lends.rules e.empty e.made e.version e.honest e.durable e.any_moment,
+      begun_lasts g.F.Place.Disk g.F.Folders c.args.folders.now c.create.new.self c.args.folder.now c.in-Ok.disk l.lasting (λ h. e.empty (l.lends.rules h)),
     )
 
 pub returns-in-Err-create-clause-refused : goal.returns-in-Err-create-clause-refused

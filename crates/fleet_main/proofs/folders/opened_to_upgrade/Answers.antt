@@ -1,4 +1,5 @@
 use Rattle.std.proofs.Common.{refl, rules}
+use Rattle.fleet_main.proofs.Lasting.{opened_lasts}
 use Rattle.fleet_main.proofs.Loans.{none_lent, not_lent}
 use Rattle.fleet_main.proofs.Opening.{is_unopened, open_nameless, open_refused, open_unlent, opened_on}
 use Rattle.fleet_main.proofs.folders.opened_to_upgrade.Goals as goal
@@ -11,6 +12,13 @@ returns-in-Ok-open-clause-opened g c =
       record { given = l.lends.given; rules = l.lends.rules; lent = l.lends.lent; others = l.lends.others; honest = l.lends.sound; later = c.complete.ensures.later },
       opened_on g.F.Place.Disk (g.F.Folders.honest c.args.folders.now) c.in-Ok.lent c.in-Ok-open.store l.lends.rules e.stands e.keeps e.working e.honest e.any_moment e.version e.version_stays,
     )
+
+pub returns-in-Ok-open-clause-lasting : goal.returns-in-Ok-open-clause-lasting
+returns-in-Ok-open-clause-lasting g c =
+    let l = c.in-Ok.ensures in
+    let e = c.in-Ok-open.ensures in
+    opened_lasts g.F.Place.Disk g.F.Folders c.args.folders.now c.complete.new.self c.args.folder.now c.in-Ok.lent c.in-Ok-open.store l.lasting
+    (opened_on g.F.Place.Disk (g.F.Folders.honest c.args.folders.now) c.in-Ok.lent c.in-Ok-open.store l.lends.rules e.stands e.keeps e.working e.honest e.any_moment e.version e.version_stays)
 
 pub returns-in-Err-open-clause-refused : goal.returns-in-Err-open-clause-refused
 returns-in-Err-open-clause-refused g c =
