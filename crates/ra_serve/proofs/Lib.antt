@@ -1,3 +1,4 @@
+pub mod Adding
 pub mod Causes
 pub mod Directories
 pub mod Exits

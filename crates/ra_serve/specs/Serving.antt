@@ -64,6 +64,14 @@ ServesSession repository refusals is_mirror remaining contents url = ServesBy (s
 abbrev pub OnlyGreets : {P W : Type 0} → (P → Option Repository) → (W → Option (List ℕ)) → P → P → W → W → declared.End → Type 0
 OnlyGreets repository contents old new out now e = (repository new ≡ repository old) × Appends (contents out) (contents now) (spell greeting) × (e ≡ end.Items item.Failed)
 
+-- whatever the port knows, these bytes stand behind what the writer had, and then what was said
+abbrev pub SaysFirst : List ℕ → Option (List ℕ) → Option (List ℕ) → Type 0
+SaysFirst first before now = (rest : List ℕ) × Appends before now (first ++ rest)
+
+-- behind what the writer had stands the greeting
+abbrev pub Greets : {W : Type 0} → (W → Option (List ℕ)) → W → W → Type 0
+Greets contents out now = SaysFirst (spell greeting) (contents out) (contents now)
+
 -- ---- its parts
 
 abbrev pub any : List Item → Bool

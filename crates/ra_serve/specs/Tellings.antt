@@ -46,6 +46,13 @@ GoesOn refusals is_mirror old new = Goes (is_mirror old) (is_mirror new) (refusa
 abbrev pub Sends : {W E : Type 0} → (W → Option (List ℕ)) → W → List ℕ → Result W E → Type 0
 Sends contents out bytes result = IfOk result (λ w. Appends (contents out) (contents w) bytes)
 
+-- whatever the port knows, the writer keeps what it had: some bytes were written behind it
+abbrev pub Adds : {W : Type 0} → (W → Option (List ℕ)) → W → W → Type 0
+Adds contents out now = (rest : List ℕ) × Appends (contents out) (contents now) rest
+
+abbrev pub GivesMore : {W E : Type 0} → (W → Option (List ℕ)) → W → Result W E → Type 0
+GivesMore contents out result = IfOk result (λ w. Adds contents out w)
+
 -- a command was told
 abbrev pub TellsCommand : {P W : Type 0} → Ghosts P → (W → Option (List ℕ)) → P → P → W → Command → Result W ServeFault → Type 0
 TellsCommand G contents old new out c result = IfOk result (Tells G.repository G.refusals G.is_mirror contents c old new out)

@@ -11,7 +11,7 @@ ghost use Rattle.ra_wire.specs.Commands.{ChangeProp};
 ghost use Rattle.ra_wire.specs.Reading.{command_in};
 ghost use Rattle.ra_wire.specs.Replies.{authorised};
 ghost use Rattle.ra_serve.specs.Answers.{wanted_of};
-ghost use Rattle.ra_serve.specs.Tellings.{GoesOn, Sends, TellsCommand, RepliesTo};
+ghost use Rattle.ra_serve.specs.Tellings.{GoesOn, Sends, TellsCommand, RepliesTo, GivesMore};
 
 use crate::ask::{change_asked, props_asked, tree_asked};
 use crate::browse::{get_dir, get_file};
@@ -39,6 +39,7 @@ pub fn answer<P: RepoPort, W: Write + Drop>(
     out: W,
 ) -> Result<W, ServeFault>
     ensures told { RepliesTo P.RepoPort W.contents port.old port.new out (command_in item) result }
+    ensures adds { GivesMore W.contents out result }
     ensures goes { GoesOn P.refusals P.is_mirror port.old port.new }
 {
     match Command::parse(alloc, item) {
@@ -73,6 +74,7 @@ fn reply<P: RepoPort, W: Write + Drop>(
     out: W,
 ) -> Result<W, ServeFault>
     ensures told { TellsCommand P.RepoPort W.contents port.old port.new out (command_as command) result }
+    ensures adds { GivesMore W.contents out result }
     ensures goes { GoesOn P.refusals P.is_mirror port.old port.new }
 {
     match command {
@@ -96,6 +98,7 @@ fn reply<P: RepoPort, W: Write + Drop>(
 
 fn latest<P: RepoPort, W: Write + Drop>(port: &mut P, out: W) -> Result<W, ServeFault>
     ensures told { TellsCommand P.RepoPort W.contents port.old port.new out LatestRev result }
+    ensures adds { GivesMore W.contents out result }
     ensures goes { GoesOn P.refusals P.is_mirror port.old port.new }
 {
     match port.latest() {
@@ -115,6 +118,7 @@ fn check_path<P: RepoPort, W: Write + Drop>(
     out: W,
 ) -> Result<W, ServeFault>
     ensures told { TellsCommand P.RepoPort W.contents port.old port.new out (CheckPath path.now number) result }
+    ensures adds { GivesMore W.contents out result }
     ensures goes { GoesOn P.refusals P.is_mirror port.old port.new }
 {
     match tree_asked(port, number) {
@@ -143,6 +147,7 @@ fn proplist<P: RepoPort, W: Write + Drop>(
     out: W,
 ) -> Result<W, ServeFault>
     ensures told { TellsCommand P.RepoPort W.contents port.old port.new out (RevProplist number) result }
+    ensures adds { GivesMore W.contents out result }
     ensures goes { GoesOn P.refusals P.is_mirror port.old port.new }
 {
     match props_asked(port, number) {
@@ -162,6 +167,7 @@ fn prop<P: RepoPort, W: Write + Drop>(
     out: W,
 ) -> Result<W, ServeFault>
     ensures told { TellsCommand P.RepoPort W.contents port.old port.new out (RevProp number name.now) result }
+    ensures adds { GivesMore W.contents out result }
     ensures goes { GoesOn P.refusals P.is_mirror port.old port.new }
 {
     match props_asked(port, number) {
@@ -205,6 +211,7 @@ fn change<P: RepoPort, W: Write + Drop>(
 ) -> Result<W, ServeFault>
     ensures told { TellsCommand P.RepoPort W.contents port.old port.new out
         (ChangeProp number name.now (option_map (λ v. v.items) value.now) (previous_as old)) result }
+    ensures adds { GivesMore W.contents out result }
     ensures goes { GoesOn P.refusals P.is_mirror port.old port.new }
 {
     if port.read_only() {

@@ -7,8 +7,8 @@ ghost use Rattle.md5.specs.Md5.{md5};
 ghost use Rattle.ra_wire.specs.Replies.{file_found};
 ghost use Rattle.ra_wire.specs.Commands.{GetFile, GetDir};
 ghost use Rattle.ra_serve.specs.Answers.{file_told, file_with};
-ghost use Rattle.ra_serve.specs.Tellings.{GoesOn, Sends, Tells, TellsCommand};
-ghost use Rattle.ra_wire.specs.Writing.{Writes, WritesItem};
+ghost use Rattle.ra_serve.specs.Tellings.{GoesOn, Sends, Tells, TellsCommand, GivesMore};
+ghost use Rattle.ra_item.specs.Writing.{Writes, WritesItem};
 
 use crate::ask::tree_asked;
 use crate::directory::tell_dir;
@@ -34,6 +34,7 @@ pub fn get_file<P: RepoPort, W: Write + Drop>(
 ) -> Result<W, ServeFault>
     ensures told { TellsCommand P.RepoPort W.contents port.old port.new out
         (GetFile path.now number props contents) result }
+    ensures adds { GivesMore W.contents out result }
     ensures goes { GoesOn P.refusals P.is_mirror port.old port.new }
 {
     match tree_asked(port, number) {
@@ -73,7 +74,7 @@ fn write_found<W: Write>(
     props: bool,
     contents: bool,
 ) -> io::Result<()>
-    ensures { Writes W.contents out.old out.new (file_with number props contents node.now text.now) result }
+    ensures { Writes W.Write out.old out.new (file_with number props contents node.now text.now) result }
 {
     write_summed(out, node, text, number, props)?;
     write_wanted(out, text.as_slice(), contents)
@@ -87,7 +88,7 @@ fn write_summed<W: Write>(
     number: RevNo,
     props: bool,
 ) -> io::Result<()>
-    ensures { WritesItem W.contents out.old out.new
+    ensures { WritesItem W.Write out.old out.new
         (file_found (encode_lower (md5 text.now)) number props node.now.props) result }
 {
     let sum = hex_of(text.sum());
@@ -106,6 +107,7 @@ pub fn get_dir<P: RepoPort, W: Write + Drop>(
 ) -> Result<W, ServeFault>
     ensures told { IfOk result (Tells P.repository P.refusals P.is_mirror W.contents
         (GetDir path.now number props contents) port.old port.new out) }
+    ensures adds { GivesMore W.contents out result }
     ensures goes { GoesOn P.refusals P.is_mirror port.old port.new }
 {
     match tree_asked(port, number) {

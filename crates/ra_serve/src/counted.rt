@@ -4,7 +4,7 @@ ghost use Rattle.std.specs.Prelude.{◌≡◌, true, IfOk, IfErr, if◌then◌el
 ghost use Rattle.ra_item.specs.ItemStreams.{is_spent};
 ghost use Rattle.ra_serve.specs.Counted.{IsToldOnlyBy};
 ghost use Rattle.ra_serve.specs.Outputs.{items_of};
-ghost use Rattle.ra_serve.specs.Serving.{OnlyGreets, HoldsSession};
+ghost use Rattle.ra_serve.specs.Serving.{Greets, OnlyGreets, HoldsSession};
 ghost use Rattle.ra_serve.specs.declared.fault.ServeFault.TheVariants.{OutOfMemory, WriteFailed};
 ghost use Rattle.ra_serve.specs.Clients.{ReaderFails, CountsOn};
 
@@ -40,6 +40,7 @@ pub fn serve<P: RepoPort, I: Input + Drop, O: Output + Drop>(
     out: O,
 ) -> Result<(O, End), Unserved<O>>
     ensures served { HoldsSession P.RepoPort O.contents port.old port.new items.old items.new out root_url.now result }
+    ensures greets { IfOk result (λ r. Greets O.contents out r.0) }
     ensures spent { is_spent (items_of items.old) ≡ true
         → IfOk result (λ r. OnlyGreets P.repository O.contents port.old port.new out r.0 r.1) }
     ensures handed { IfOk result (λ r. O.is_handed_on r.0) }

@@ -8,7 +8,7 @@ ghost use Rattle.ra_wire.specs.Answers.{dirent_as};
 ghost use Rattle.ra_wire.specs.Replies.{dirent};
 ghost use Rattle.ra_serve.specs.Answers.{dir_told, entries_wanted, entry_of, item_due};
 ghost use Rattle.ra_serve.specs.Directories.{front_of, spelt, told_of, whole, whole_told, LeavesRoom};
-ghost use Rattle.ra_wire.specs.Writing.{Writes};
+ghost use Rattle.ra_item.specs.Writing.{Writes};
 ghost use Rattle.ra_serve.specs.Tellings.{Sends};
 
 use crate::fault::ServeFault;
@@ -62,7 +62,7 @@ fn front_of(alloc: Global, node: &Node, number: RevNo, props: bool) -> io::Resul
 
 // The same to a writer.
 fn write_front<W: Write>(out: &mut W, node: &Node, number: u64, props: bool) -> io::Result<()>
-    ensures { Writes W.contents out.old out.new (front_of number props node.now.props) result }
+    ensures { Writes W.Write out.old out.new (front_of number props node.now.props) result }
 {
     out.write_all(b"( success ( ")?;
     write_number(out, number)?;
@@ -156,7 +156,7 @@ fn write_entries<W: Write>(
     front: &[u8],
     out: &mut W,
 ) -> Result<(), ServeFault>
-    ensures { Writes W.contents out.old out.new (whole front.now (told_of children.entry)) result }
+    ensures { Writes W.Write out.old out.new (whole front.now (told_of children.entry)) result }
 {
     out.write_all(front)?;
     write_children(alloc, children, out)?;
@@ -169,7 +169,7 @@ fn write_children<W: Write>(
     children: Children<'_>,
     out: &mut W,
 ) -> Result<(), ServeFault>
-    ensures { Writes W.contents out.old out.new (spelt (told_of children.entry)) result }
+    ensures { Writes W.Write out.old out.new (spelt (told_of children.entry)) result }
 {
     let mut children = children;
     while let Some(child) = children.next()? {

@@ -9,7 +9,7 @@ ghost use Rattle.ra_wire.specs.Replies.{done, revprops};
 ghost use Rattle.ra_wire.specs.Commands.{Replay as ReplayOf, ReplayRange};
 ghost use Rattle.repo_core.specs.Repository.{Repository};
 ghost use Rattle.ra_serve.specs.Ports.{no_revision};
-ghost use Rattle.ra_serve.specs.Tellings.{GoesOn, Sends, TellsCommand};
+ghost use Rattle.ra_serve.specs.Tellings.{GoesOn, Sends, TellsCommand, GivesMore};
 
 use crate::ask::{newest, revision};
 use crate::fault::{PortFault, ServeFault};
@@ -76,6 +76,7 @@ pub fn replay<P: RepoPort, W: Write + Drop>(
     out: W,
 ) -> Result<W, ServeFault>
     ensures told { TellsCommand P.RepoPort W.contents port.old port.new out (ReplayOf number) result }
+    ensures adds { GivesMore W.contents out result }
     ensures goes { GoesOn P.refusals P.is_mirror port.old port.new }
 {
     let number = match revision(port, number) {
@@ -101,6 +102,7 @@ pub fn range<P: RepoPort, W: Write + Drop>(
     out: W,
 ) -> Result<W, ServeFault>
     ensures told { TellsCommand P.RepoPort W.contents port.old port.new out (ReplayRange first last) result }
+    ensures adds { GivesMore W.contents out result }
     ensures goes { GoesOn P.refusals P.is_mirror port.old port.new }
 {
     let head = match newest(port) {
@@ -127,6 +129,7 @@ fn revisions<P: RepoPort, W: Write + Drop>(
     requires there { (x : Repository) → P.repository port.old ≡ Some x → (first < length x.revisions)
         × (last < length x.revisions) }
     ensures told { TellsCommand P.RepoPort W.contents port.old port.new out (ReplayRange first last) result }
+    ensures adds { GivesMore W.contents out result }
     ensures goes { GoesOn P.refusals P.is_mirror port.old port.new }
 {
     let mut sent = out;

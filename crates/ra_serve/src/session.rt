@@ -14,11 +14,11 @@ ghost use Rattle.uuid.specs.Text.{hyphenated_text, lower};
 ghost use Rattle.node_base.specs.declared.refusal.Refusal.TheVariants as refusal;
 ghost use Rattle.ra_serve.specs.Answers.{refused};
 ghost use Rattle.ra_serve.specs.Outputs.{items_of};
-ghost use Rattle.ra_serve.specs.Serving.{OnlyGreets, HoldsSession, HoldsLogin, HoldsCommands};
-ghost use Rattle.ra_serve.specs.Tellings.{GoesOn, Sends, RepliesTo};
+ghost use Rattle.ra_serve.specs.Serving.{Greets, OnlyGreets, HoldsSession, HoldsLogin, HoldsCommands};
+ghost use Rattle.ra_serve.specs.Tellings.{GoesOn, Sends, RepliesTo, Adds, GivesMore};
 ghost use Rattle.ra_item.specs.declared.fault.NextFault.TheVariants as next;
 ghost use Rattle.ra_serve.specs.Serving.{EndsBy};
-ghost use Rattle.ra_wire.specs.Writing.{WritesItem};
+ghost use Rattle.ra_item.specs.Writing.{WritesItem};
 ghost use Rattle.ra_serve.specs.Clients.{TellsReader, NotTheReader, CountsOn, TakesNext};
 
 use crate::answer::answer;
@@ -48,6 +48,7 @@ pub(crate) fn converse<P: RepoPort, I: Input + Drop, W: HandsOn + Drop>(
     out: W,
 ) -> Result<(W, End), ServeFault>
     ensures served { HoldsSession P.RepoPort W.contents port.old port.new items.old items.new out root_url.now result }
+    ensures greets { IfOk result (λ r. Greets W.contents out r.0) }
     ensures spent { is_spent (items_of items.old) ≡ true
         → IfOk result (λ r. OnlyGreets P.repository W.contents port.old port.new out r.0 r.1) }
     ensures handed { IfOk result (λ r. W.is_handed_on r.0) }
@@ -138,6 +139,7 @@ fn log_in<P: RepoPort, I: Input + Drop, W: HandsOn + Drop>(
     out: W,
 ) -> Result<(W, End), ServeFault>
     ensures served { HoldsLogin P.RepoPort W.contents port.old port.new items.old items.new out root_url.now result }
+    ensures adds { IfOk result (λ r. Adds W.contents out r.0) }
     ensures handed { IfOk result (λ r. W.is_handed_on r.0) }
     ensures reader { TellsReader items.old items.new result }
     ensures failures { CountsOn items.old items.new }
@@ -196,7 +198,7 @@ fn ask_who<W: HandsOn + Drop>(identity: &Uuid, out: W) -> Result<W, ServeFault>
 
 /// Writes the ways in which a client may say who it is, in the realm of a repository. An `Err` is the writer's.
 pub fn write_realm<W: Write>(out: &mut W, identity: &Uuid) -> io::Result<()>
-    ensures { WritesItem W.contents out.old out.new (mechanisms (hyphenated_text lower identity.now)) result }
+    ensures { WritesItem W.Write out.old out.new (mechanisms (hyphenated_text lower identity.now)) result }
 {
     let mut buffer = Uuid::encode_buffer();
     let realm = identity.hyphenated().encode_lower(&mut buffer);
@@ -218,7 +220,7 @@ fn welcome<W: HandsOn + Drop>(identity: &Uuid, root_url: &[u8], out: W) -> Resul
 
 /// Writes the identity of a repository and its root, the end of an opening. An `Err` is the writer's.
 pub fn write_identity<W: Write>(out: &mut W, identity: &Uuid, root_url: &[u8]) -> io::Result<()>
-    ensures { WritesItem W.contents out.old out.new (welcome (hyphenated_text lower identity.now) root_url.now) result }
+    ensures { WritesItem W.Write out.old out.new (welcome (hyphenated_text lower identity.now) root_url.now) result }
 {
     let mut buffer = Uuid::encode_buffer();
     let text = identity.hyphenated().encode_lower(&mut buffer);
@@ -256,6 +258,7 @@ fn commands<P: RepoPort, I: Input + Drop, W: HandsOn + Drop>(
 ) -> Result<(W, End), ServeFault>
     requires handed { W.is_handed_on out }
     ensures served { HoldsCommands P.RepoPort W.contents port.old port.new items.old items.new out result }
+    ensures adds { IfOk result (λ r. Adds W.contents out r.0) }
     ensures handed { IfOk result (λ r. W.is_handed_on r.0) }
     ensures reader { TellsReader items.old items.new result }
     ensures failures { CountsOn items.old items.new }
@@ -279,6 +282,7 @@ fn turn<P: RepoPort, W: HandsOn + Drop>(
     out: W,
 ) -> Result<W, ServeFault>
     ensures told { RepliesTo P.RepoPort W.contents port.old port.new out (command_in item) result }
+    ensures adds { GivesMore W.contents out result }
     ensures handed { IfOk result W.is_handed_on }
     ensures goes { GoesOn P.refusals P.is_mirror port.old port.new }
     ensures writer { NotTheReader result }

@@ -3,7 +3,7 @@
 ghost use Rattle.std.specs.Prelude.{◌≡◌};
 ghost use Rattle.hex.specs.Hex.{encode_lower};
 ghost use Rattle.ra_serve.specs.Answers.{strings, text_bytes, text_wanted};
-ghost use Rattle.ra_wire.specs.Writing.{Writes};
+ghost use Rattle.ra_item.specs.Writing.{Writes};
 
 use ra_item::writer::write_text;
 use ra_wire::reply_writer::write_done;
@@ -15,7 +15,7 @@ const PIECE: usize = 65_536;
 
 /// A text, where it is wanted. An `Err` is the writer's.
 pub fn write_wanted<W: Write>(out: &mut W, text: &[u8], wanted: bool) -> io::Result<()>
-    ensures { Writes W.contents out.old out.new (text_wanted wanted text.now) result }
+    ensures { Writes W.Write out.old out.new (text_wanted wanted text.now) result }
 {
     if wanted {
         write_contents(out, text)
@@ -36,7 +36,7 @@ pub fn hex_of(sum: [u8; 16]) -> [u8; 32]
 
 // A text in its pieces, then an empty string, and that it is done.
 fn write_contents<W: Write>(out: &mut W, text: &[u8]) -> io::Result<()>
-    ensures { Writes W.contents out.old out.new (text_bytes text.now) result }
+    ensures { Writes W.Write out.old out.new (text_bytes text.now) result }
 {
     write_pieces(out, text)?;
     write_text(out, b"")?;
@@ -45,7 +45,7 @@ fn write_contents<W: Write>(out: &mut W, text: &[u8]) -> io::Result<()>
 
 // A text in strings.
 fn write_pieces<W: Write>(out: &mut W, text: &[u8]) -> io::Result<()>
-    ensures { Writes W.contents out.old out.new (strings text.now) result }
+    ensures { Writes W.Write out.old out.new (strings text.now) result }
 {
     let mut rest = text;
     while rest.len() > 0 {

@@ -1,7 +1,8 @@
 //! The server.
-ghost use Rattle.std.specs.Prelude.{◌≡◌, ℕ, IfErr, OnOk, string_bytes};
+ghost use Rattle.std.specs.Prelude.{◌≡◌, ℕ, List, Option, IfErr, IfOk, OnOk, string_bytes};
 ghost use Rattle.std.specs.Io.KnownBytes.{Appends};
 ghost use Rattle.sockets.specs.Lines.{listening};
+ghost use Rattle.sockets.specs.Talks.{HasTalked};
 ghost use Rattle.sockets.specs.declared.fault.SocketFault.TheVariants as socket;
 
 use crate::drain::drain;
@@ -17,23 +18,24 @@ use std::time::{Clock, Duration};
 
 /// What talks over one connection.
 pub trait Session {
-    /// It has talked over the connection of that number, up to its end.
-    ghost has_talked: { Self → ℕ → Type 0 };
+    /// It has talked over the connection of that number, up to its end: what the output held before, where that is known,
+    /// and what it holds then.
+    ghost has_talked: { Self → ℕ → Option (List ℕ) → Option (List ℕ) → Type 0 };
 
-    /// Talks until the input ends, or there is nothing more to say. What it writes is kept back until it flushes, so it
-    /// flushes before it waits for input, and at its end.
+    /// Talks until the input ends, or there is nothing more to say, and gives the output back. What it writes is kept
+    /// back until it flushes, so it flushes before it waits for input, and at its end.
     fn talk<R: Read + Drop, W: Write + Drop>(
         &self,
         connection: u64,
         input: R,
         output: W,
-    ) -> Result<(), SocketFault>
-        ensures { OnOk result (has_talked self.now connection) };
+    ) -> Result<W, SocketFault>
+        ensures { IfOk result (λ w. has_talked self.now connection (W.contents output) (W.contents w)) };
 
     /// Hears, once for each connection, how its session ended: well only where it has talked. Connections are counted
     /// from 0 up.
     fn ended(&self, connection: u64, answer: Result<(), SocketFault>)
-        requires { OnOk answer (has_talked self.now connection) };
+        requires { OnOk answer (HasTalked (has_talked self.now connection)) };
 
     /// Hears that no connection could be accepted. It counts for none: the server tries again.
     fn unaccepted(&self, fault: SocketFault);
@@ -59,13 +61,16 @@ fn talk_over<S: Session>(
     patience: Duration,
     stream: &TcpStream,
 ) -> Result<(), SocketFault>
-    ensures { OnOk result (S.has_talked session.now connection) }
+    ensures { OnOk result (HasTalked (S.has_talked session.now connection)) }
 {
     if !prepared(stream, patience) {
         return Err(SocketFault::PeerFailed);
     }
     match BufWriter::with_capacity(alloc, ROOM, stream) {
-        Ok(output) => session.talk(connection, stream, output),
+        Ok(output) => match session.talk(connection, stream, output) {
+            Ok(_output) => Ok(()),
+            Err(fault) => Err(fault),
+        },
         Err(_) => Err(SocketFault::OutOfMemory),
     }
 }

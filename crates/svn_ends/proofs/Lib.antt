@@ -1,3 +1,4 @@
+pub mod Greeted
 pub mod Keeping
 pub mod Refused
 pub mod Running

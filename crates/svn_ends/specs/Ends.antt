@@ -1,7 +1,10 @@
 -- What a server hears of the end of a session, and the root that it serves.
-use Rattle.std.specs.Prelude.{ℕ, List, ◌++◌, codes, Option, Some, None, Result, Ok, Err}
+use Rattle.std.specs.Prelude.{ℕ, Bool, true, false, List, ◌++◌, codes, Option, Some, None, Result, Ok, Err}
 use Rattle.std.specs.Fmt.{decimal}
 use Rattle.std.specs.Option.{option_map_or}
+use Rattle.ra_item.specs.Items.{spell}
+use Rattle.ra_wire.specs.Replies.{greeting}
+use Rattle.ra_serve.specs.Serving.{SaysFirst}
 use Rattle.ra_serve.specs.declared.fault.End.{End}
 use Rattle.ra_serve.specs.declared.fault.End.TheVariants.{Input, Opening, Items}
 use Rattle.ra_serve.specs.declared.fault.ServeFault.{ServeFault}
@@ -14,14 +17,22 @@ use Rattle.sockets.specs.declared.troubles.Trouble.{Trouble}
 use Rattle.sockets.specs.declared.troubles.Trouble.TheVariants as trouble
 use Rattle.svn_ends.specs.declared.server.Address.{Address}
 
--- a stream that fails and a client that sends what isn't items are a peer that failed
-abbrev pub heard : Result End ServeFault → Result (Unit {0}) SocketFault
-heard (Ok Input) = Ok tt
-heard (Ok Opening) = Ok tt
-heard (Ok (Items f)) = Err socket.PeerFailed
-heard (Err ReadFailed) = Err socket.PeerFailed
-heard (Err WriteFailed) = Err socket.PeerFailed
-heard (Err OutOfMemory) = Err socket.OutOfMemory
+-- a client that sends what isn't items is a peer that failed
+abbrev pub heard : End → Result (Unit {0}) SocketFault
+heard Input = Ok tt
+heard Opening = Ok tt
+heard (Items f) = Err socket.PeerFailed
+
+-- so is a stream that fails
+abbrev pub fault_of : ServeFault → SocketFault
+fault_of ReadFailed = socket.PeerFailed
+fault_of WriteFailed = socket.PeerFailed
+fault_of OutOfMemory = socket.OutOfMemory
+
+-- a client is told the greeting first; of one that may browse that isn't said
+abbrev pub BeginsWell : Bool → Option (List ℕ) → Option (List ℕ) → Type 0
+BeginsWell true before behind = Unit {0}
+BeginsWell false before behind = SaysFirst (spell greeting) before behind
 
 -- the root that is served on a port
 abbrev pub url : ℕ → List ℕ

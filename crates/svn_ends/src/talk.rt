@@ -1,8 +1,8 @@
 //! What goes over a connection.
 
-ghost use Rattle.std.specs.Prelude.{◌≡◌, IfOk, ⊤, string_bytes};
+ghost use Rattle.std.specs.Prelude.{◌≡◌, IfOk, string_bytes};
 ghost use Rattle.svn_ends.specs.Ports.{takes_none};
-ghost use Rattle.svn_ends.specs.Ends.{heard, root_of, trouble_of, url};
+ghost use Rattle.svn_ends.specs.Ends.{fault_of, heard, root_of, trouble_of, url, BeginsWell};
 
 use crate::port::SharePort;
 use crate::server::Address;
@@ -42,6 +42,41 @@ impl<'a, R: Wait + Clock, L: RowName, S: ServedShare<L>, T: Teller> ShareSession
         SharePort::new(self.rt, self.alloc, self.share, self.mirror)
     }
 
+    // Serves one session over the port, as the address says.
+    fn serve_over<I: Read + Drop, W: Write + Drop>(
+        &self,
+        port: &mut SharePort<'a, R, L, S>,
+        input: I,
+        output: W,
+    ) -> Result<(W, End), ServeFault>
+        ensures { IfOk result (λ r. BeginsWell self.now.address.now.browse (W.contents output) (W.contents r.0)) }
+    {
+        if self.address.browse {
+            return self.browse_over(port, input, output);
+        }
+        let mut items = ClientItems::new(self.alloc, CountedReader::new(input));
+        let out = CountedWriter::new(output);
+        match serve(self.alloc, port, self.root_url, &mut items, out) {
+            Ok((out, end)) => Ok((out.into_inner(), end)),
+            Err(unserved) => Err(unserved.fault),
+        }
+    }
+
+    // The same of a client that may browse.
+    fn browse_over<I: Read + Drop, W: Write + Drop>(
+        &self,
+        port: &mut SharePort<'a, R, L, S>,
+        input: I,
+        output: W,
+    ) -> Result<(W, End), ServeFault> {
+        let mut items = ItemStream::new(self.alloc, CountedReader::new(input));
+        let out = CountedWriter::new(output);
+        match browse_to(self.alloc, port, &mut items, out) {
+            Ok((out, end)) => Ok((out.into_inner(), end)),
+            Err(unserved) => Err(unserved.fault),
+        }
+    }
+
     // Tells a refusal that was a port's own, where there was one.
     fn tell_refusal(&self, refusal: Option<PortFault>) {
         if let Some(fault) = refusal {
@@ -54,8 +89,8 @@ impl<'a, R: Wait + Clock, L: RowName, S: ServedShare<L>, T: Teller> ShareSession
 
 impl<R: Wait + Clock, L: RowName, S: ServedShare<L>, T: Teller> Session
     for ShareSessions<'_, R, L, S, T> {
-    // What clients are told no clause says: a port over a share doesn't know its repository.
-    ghost has_talked = { λ sessions connection. ⊤ };
+    // What clients are told behind the greeting no clause says: a port over a share doesn't know its repository.
+    ghost has_talked = { λ sessions connection before behind. BeginsWell sessions.address.now.browse before behind };
 
     /// Answers the commands of one client up to its end. PeerFailed (49) where a stream fails or what the client sends
     /// isn't items, OutOfMemory (70).
@@ -64,23 +99,18 @@ impl<R: Wait + Clock, L: RowName, S: ServedShare<L>, T: Teller> Session
         _connection: u64,
         input: I,
         output: W,
-    ) -> Result<(), SocketFault> {
+    ) -> Result<W, SocketFault> {
         let Ok(mut port) = self.port() else {
             return Err(SocketFault::OutOfMemory);
         };
-        let input = CountedReader::new(input);
-        let out = CountedWriter::new(output);
-        let served = if self.address.browse {
-            let mut items = ItemStream::new(self.alloc, input);
-            browse_to(self.alloc, &mut port, &mut items, out)
-        } else {
-            let mut items = ClientItems::new(self.alloc, input);
-            serve(self.alloc, &mut port, self.root_url, &mut items, out)
-        };
+        let served = self.serve_over(&mut port, input, output);
         self.tell_refusal(port.first_refusal());
         match served {
-            Ok((_out, end)) => heard(Ok(end)),
-            Err(unserved) => heard(Err(unserved.fault)),
+            Ok((output, end)) => match heard(end) {
+                Ok(()) => Ok(output),
+                Err(fault) => Err(fault),
+            },
+            Err(fault) => Err(fault_of(fault)),
         }
     }
 
@@ -114,14 +144,22 @@ fn trouble_of(fault: PortFault) -> Option<Trouble>
 }
 
 // What a server hears of the end of a session.
-fn heard(answer: Result<End, ServeFault>) -> Result<(), SocketFault>
-    ensures { result ≡ heard answer }
+fn heard(end: End) -> Result<(), SocketFault>
+    ensures { result ≡ heard end }
 {
-    match answer {
-        Ok(End::Input | End::Opening) => Ok(()),
-        Ok(End::Items(_)) => Err(SocketFault::PeerFailed),
-        Err(ServeFault::ReadFailed | ServeFault::WriteFailed) => Err(SocketFault::PeerFailed),
-        Err(ServeFault::OutOfMemory) => Err(SocketFault::OutOfMemory),
+    match end {
+        End::Input | End::Opening => Ok(()),
+        End::Items(_) => Err(SocketFault::PeerFailed),
+    }
+}
+
+// What it hears of a session that was given up.
+fn fault_of(fault: ServeFault) -> SocketFault
+    ensures { result ≡ fault_of fault }
+{
+    match fault {
+        ServeFault::ReadFailed | ServeFault::WriteFailed => SocketFault::PeerFailed,
+        ServeFault::OutOfMemory => SocketFault::OutOfMemory,
     }
 }
 

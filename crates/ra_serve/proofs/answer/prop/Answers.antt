@@ -8,6 +8,7 @@ use Rattle.ra_wire.specs.Replies.{value}
 use Rattle.repo_core.specs.Repository.{props_at}
 use Rattle.ra_serve.specs.Ports.{no_revision}
 use Rattle.ra_serve.proofs.Exits.{replied, tells_refusal}
+use Rattle.ra_serve.proofs.Adding.{more_refused}
 use Rattle.ra_serve.proofs.answer.prop.Goals as goal
 
 pub returns-in-Err-clause-told : goal.returns-in-Err-clause-told
@@ -20,3 +21,6 @@ returns-in_ok-write_value-in-Ok-clause-told g c = λ x e.
     (subst (λ v. Appends (g.W.Write.contents c.args.out) (g.W.Write.contents c.write_value.new.out) (spell (value v)))
     (c.get.ensures ∙ ap (λ m. finite.get m c.as_bytes.result.now) (c.in-Ok.ensures.props x e) ∙ ap (finite.get (props_at x.revisions c.args.number)) c.as_bytes.ensures) c.in_ok-write_value-in-Ok.ensures)
     (c.props_asked.ensures.stays.repository ∙ e)
+
+pub returns-in-Err-clause-adds : goal.returns-in-Err-clause-adds
+returns-in-Err-clause-adds g c = more_refused g.W.Write.contents c.args.out c.refuse.result c.in-Err.fault c.refuse.ensures

@@ -6,6 +6,7 @@ use Rattle.ra_wire.specs.Commands.{RevProplist}
 use Rattle.ra_wire.specs.Replies.{proplist}
 use Rattle.ra_serve.specs.Ports.{no_revision}
 use Rattle.ra_serve.proofs.Exits.{replied, tells_refusal}
+use Rattle.ra_serve.proofs.Adding.{more_refused}
 use Rattle.ra_serve.proofs.answer.proplist.Goals as goal
 
 pub returns-in-Err-clause-told : goal.returns-in-Err-clause-told
@@ -17,3 +18,6 @@ returns-in_ok-write_proplist-in-Ok-clause-told g c = λ x e.
     replied (g.P.RepoPort.is_mirror c.args.port.now) x (RevProplist c.args.number) _ _ _ _ None (c.in-Ok.ensures.there x e)
     (subst (λ m. Appends (g.W.Write.contents c.args.out) (g.W.Write.contents c.write_proplist.new.out) (spell (proplist m))) (c.in-Ok.ensures.props x e) c.in_ok-write_proplist-in-Ok.ensures)
     (c.props_asked.ensures.stays.repository ∙ e)
+
+pub returns-in-Err-clause-adds : goal.returns-in-Err-clause-adds
+returns-in-Err-clause-adds g c = more_refused g.W.Write.contents c.args.out c.refuse.result c.in-Err.fault c.refuse.ensures

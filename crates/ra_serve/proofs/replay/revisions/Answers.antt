@@ -9,6 +9,7 @@ use Rattle.ra_serve.proofs.Causes.{stays_join}
 use Rattle.ra_serve.proofs.Exits.{tells_done}
 use Rattle.ra_serve.proofs.Ranges.{both_there, written_more, refused_amid}
 use Rattle.ra_serve.proofs.Replays.{revision_written}
+use Rattle.ra_serve.proofs.Adding.{adds_more, more_by, more_refused, more_then}
 use Rattle.ra_serve.proofs.replay.revisions.Goals as goal
 
 pub returns-in-Err-clause-told : goal.returns-in-Err-clause-told
@@ -27,6 +28,7 @@ loop-number-preserved g c =
       i.3,
       (λ x e. written_more x c.args.first i.0 c.new-number.result (g.W.Write.contents c.args.out) (g.W.Write.contents c.loop-number.sent) (g.W.Write.contents c.in_ok-sent-in-Ok.sent) (c.new-number.ensures ∙ i.1) (i.4 x e) (revision_written x c.new-number.result c.index.result _ c.trees.result.now _ _ _ _ (c.in-Ok.ensures.replay x (i.5.repository ∙ e)) c.index.ensures.number c.trees.ensures c.in_ok-sent-in-Ok.ensures)),
       stays_join _ _ _ _ _ _ _ _ _ i.5 c.replay_of.ensures.stays,
+      adds_more g.W.Write.contents c.args.out c.loop-number.sent c.in_ok-sent-in-Ok.sent _ i.6 c.in_ok-sent-in-Ok.ensures,
     )
 
 pub returns-clause-told : goal.returns-clause-told
@@ -36,3 +38,9 @@ returns-clause-told g c =
     (λ x e. let k : i.0 ≡ suc c.args.last - c.args.first = omega (arith, i.1, i.2, i.3, c.loop-number-test.false) in subst (λ n. Appends (g.W.Write.contents c.args.out) (g.W.Write.contents c.loop-number.sent) (edits x c.args.first n)) k (i.4 x e))
     (λ x e. both_there (g.P.RepoPort.is_mirror c.args.port.now) x c.args.first c.args.last (c.requires.there x e).0 (c.requires.there x e).1)
     (λ x. refl) (λ x. refl) i.5.repository
+
+pub returns-in-Err-clause-adds : goal.returns-in-Err-clause-adds
+returns-in-Err-clause-adds g c = more_then g.W.Write.contents c.args.out c.loop-number.sent c.refuse.result c.loop-number.invariant.6 (more_refused g.W.Write.contents c.loop-number.sent c.refuse.result c.in-Err.fault c.refuse.ensures)
+
+pub returns-clause-adds : goal.returns-clause-adds
+returns-clause-adds g c = more_then g.W.Write.contents c.args.out c.loop-number.sent c.done.result c.loop-number.invariant.6 (more_by g.W.Write.contents c.loop-number.sent (spell done) c.done.result c.done.ensures)

@@ -8,10 +8,11 @@ use Rattle.ra_serve.specs.Tellings.{Answered}
 use Rattle.ra_serve.proofs.Causes.{goes_join}
 use Rattle.ra_serve.proofs.Opening.{by_ended, fault_alone, reader_told, reader_later}
 use Rattle.ra_serve.proofs.Turning.{going_start, going_more, commands_end, commands_stop}
+use Rattle.ra_serve.proofs.Adding.{adds_none, adds_then, end_adds}
 use Rattle.ra_serve.proofs.session.commands.Goals as goal
 
 pub loop-init : goal.loop-init
-loop-init g c = ((λ x e. going_start _ x _ _ _ _ _ e), record { mirror = refl; later = omega arith }, λ s. s, omega arith, c.requires.handed)
+loop-init g c = ((λ x e. going_start _ x _ _ _ _ _ e), record { mirror = refl; later = omega arith }, λ s. s, omega arith, c.requires.handed, adds_none g.W.Write.contents c.args.out)
 
 pub returns-in-Ok-None-clause-served : goal.returns-in-Ok-None-clause-served
 returns-in-Ok-None-clause-served g c = λ x e. commands_end _ x _ _ _ _ _ _ _ _ _ _ _ _ (c.loop.invariant.0 x e) (subst (λ o. Answers g.I.Input.remaining g.I.Input.failures g.I.Input.reads (items_of c.loop.items) (items_of c.awaited.new.items) (Ok o)) c.in-Ok-None.field-0-is c.in-Ok-None.ensures.answer)
@@ -36,4 +37,8 @@ loop-preserved g c =
       (λ s. absurd (true≢false (sym s ∙ c.in-Ok-Some.ensures.goes_on))),
       omega (arith, i.3, c.awaited.ensures.failures),
       c.in_ok-sent-in-Ok-Some.ensures.handed,
+      adds_then g.W.Write.contents c.args.out c.loop.sent c.in_ok-sent-in-Ok-Some.sent i.5 c.in_ok-sent-in-Ok-Some.ensures.adds,
     )
+
+pub returns-in-Err-clause-adds : goal.returns-in-Err-clause-adds
+returns-in-Err-clause-adds g c = end_adds g.W.Write.contents c.args.out c.loop.sent c.ended.result c.in-Err.fault c.loop.invariant.5 c.ended.ensures.told

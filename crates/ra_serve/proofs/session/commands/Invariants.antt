@@ -2,7 +2,7 @@ use Rattle.ra_serve.specs.Outputs.{items_of}
 use Rattle.std.proofs.Common.{◌≡◌, ◌≤◌, true, Some}
 use Rattle.repo_core.specs.Repository.{Repository}
 use Rattle.ra_item.specs.ItemStreams.{reader_of, is_spent, ahead}
-use Rattle.ra_serve.specs.Tellings.{GoesOn}
+use Rattle.ra_serve.specs.Tellings.{Adds, GoesOn}
 use Rattle.ra_serve.proofs.Turning.{Going}
 use Rattle.ra_serve.proofs.session.commands.Given as goal
 
@@ -13,3 +13,4 @@ invariant-loop g l =
     × (is_spent (items_of l.items) ≡ true → is_spent (items_of l.fn.items) ≡ true)
     × (g.I.Input.failures (reader_of (items_of l.fn.items)) ≤ g.I.Input.failures (reader_of (items_of l.items)))
     × g.W.HandsOn.is_handed_on l.sent
+    × Adds g.W.Write.contents l.fn.out l.sent

@@ -11,6 +11,7 @@ use Rattle.ra_serve.specs.declared.fault.End.TheVariants as end
 use Rattle.ra_serve.proofs.Handed.{gives_nothing, greets_only, its_refusal}
 use Rattle.ra_serve.proofs.Turning.{as_turn}
 use Rattle.ra_serve.proofs.Opening.{by_before, by_end, by_fault, reader_told, hello_said, hello_goes, hello_ends, hello_asked, hello_refused, hello_over, greeted_only}
+use Rattle.ra_serve.proofs.Adding.{adds_by, adds_none, end_adds, greets, greets_first}
 use Rattle.ra_serve.proofs.session.converse.Goals as goal
 
 pub returns-in-Ok-None-clause-served : goal.returns-in-Ok-None-clause-served
@@ -49,3 +50,15 @@ returns-then-branch-clause-spent g c = λ s. absurd (gives_nothing _ _ (c.in-Ok-
 
 pub returns-clause-spent : goal.returns-clause-spent
 returns-clause-spent g c = λ s. absurd (gives_nothing _ _ (c.in-Ok-Some.ensures.spent s))
+
+pub returns-in-Ok-None-clause-greets : goal.returns-in-Ok-None-clause-greets
+returns-in-Ok-None-clause-greets g c = greets g.W.Write.contents c.args.out c.in_ok-out.out c.in_ok-out.out c.in_ok-out.ensures.sent (adds_none g.W.Write.contents c.in_ok-out.out)
+
+pub returns-in-Err-clause-greets : goal.returns-in-Err-clause-greets
+returns-in-Err-clause-greets g c = greets_first g.W.Write.contents c.args.out c.in_ok-out.out c.ended.result c.in_ok-out.ensures.sent (end_adds g.W.Write.contents c.in_ok-out.out c.in_ok-out.out c.ended.result c.in-Err.fault (adds_none g.W.Write.contents c.in_ok-out.out) c.ended.ensures.told)
+
+pub returns-then-branch-clause-greets : goal.returns-then-branch-clause-greets
+returns-then-branch-clause-greets g c = greets_first g.W.Write.contents c.args.out c.in_ok-out.out c.log_in.result c.in_ok-out.ensures.sent c.log_in.ensures.adds
+
+pub returns-clause-greets : goal.returns-clause-greets
+returns-clause-greets g c = greets g.W.Write.contents c.args.out c.in_ok-out.out c.in_ok-refused.refused c.in_ok-out.ensures.sent (adds_by g.W.Write.contents c.in_ok-out.out c.in_ok-refused.refused _ c.in_ok-refused.ensures.sent)

@@ -10,6 +10,7 @@ use Rattle.ra_serve.specs.Serving.{spelled_login, behind_one, goes_on_login, end
 use Rattle.ra_serve.specs.declared.fault.End.TheVariants as end
 use Rattle.ra_serve.proofs.Turning.{as_turn}
 use Rattle.ra_serve.proofs.Opening.{by_before, by_end, by_fault, reader_told, login_said, login_goes, login_bytes, asked_only, other_bytes, none_bytes, other_over, none_over}
+use Rattle.ra_serve.proofs.Adding.{adds_by, adds_more, end_adds, rest_adds}
 use Rattle.ra_serve.proofs.session.log_in.Goals as goal
 
 pub returns-in-Ok-None-clause-served : goal.returns-in-Ok-None-clause-served
@@ -46,3 +47,21 @@ returns-in_ok-out-in-None-clause-served g c =
     let e : None ≡ option_map is_anonymous (login_in c.in-Ok-Some.item) = cc in
     by_end (spelled_login c.args.root_url.now) behind_one goes_on_login ends_at_login g.P.RepoPort.repository g.P.RepoPort.refusals g.P.RepoPort.is_mirror g.I.Input.remaining g.W.Write.contents c.args.port.now (items_of c.args.items.now) (items_of c.awaited.new.items) c.args.out c.in_ok-out-in-None.out end.Opening (as_turn c.in-Ok-Some.item ∷ []) refl
     (λ x h. none_bytes c.args.root_url.now c.in-Ok-Some.item (g.P.RepoPort.is_mirror c.args.port.now) x c.identity-identity.result (g.W.Write.contents c.args.out) (g.W.Write.contents c.in_ok-out.out) (g.W.Write.contents c.in_ok-out-in-None.out) e (c.identity-identity.ensures x h) c.in_ok-out.ensures.sent c.in_ok-out-in-None.ensures.sent) (none_over c.in-Ok-Some.item e, (subst (λ o. Answers g.I.Input.remaining g.I.Input.failures g.I.Input.reads (items_of c.args.items.now) (items_of c.awaited.new.items) (Ok o)) c.in-Ok-Some.field-0-is c.in-Ok-Some.ensures.answer))
+
+pub returns-in-Ok-None-clause-adds : goal.returns-in-Ok-None-clause-adds
+returns-in-Ok-None-clause-adds g c = adds_by g.W.Write.contents c.args.out c.in_ok-out.out _ c.in_ok-out.ensures.sent
+
+pub returns-in-Err-clause-adds : goal.returns-in-Err-clause-adds
+returns-in-Err-clause-adds g c = end_adds g.W.Write.contents c.args.out c.in_ok-out.out c.ended.result c.in-Err.fault (adds_by g.W.Write.contents c.args.out c.in_ok-out.out _ c.in_ok-out.ensures.sent) c.ended.ensures.told
+
+pub returns-in_ok-out-in-Some-true-clause-adds : goal.returns-in_ok-out-in-Some-true-clause-adds
+returns-in_ok-out-in-Some-true-clause-adds g c =
+    rest_adds g.W.Write.contents c.args.out c.in_ok-out-in-Some-true.out c.commands.result
+    (adds_more g.W.Write.contents c.args.out c.in_ok-out.out c.in_ok-out-in-Some-true.out _ (adds_by g.W.Write.contents c.args.out c.in_ok-out.out _ c.in_ok-out.ensures.sent) c.in_ok-out-in-Some-true.ensures.sent)
+    c.commands.ensures.adds
+
+pub returns-in_ok-out-in-Some-false-clause-adds : goal.returns-in_ok-out-in-Some-false-clause-adds
+returns-in_ok-out-in-Some-false-clause-adds g c = adds_more g.W.Write.contents c.args.out c.in_ok-out.out c.in_ok-out-in-Some-false.out _ (adds_by g.W.Write.contents c.args.out c.in_ok-out.out _ c.in_ok-out.ensures.sent) c.in_ok-out-in-Some-false.ensures.sent
+
+pub returns-in_ok-out-in-None-clause-adds : goal.returns-in_ok-out-in-None-clause-adds
+returns-in_ok-out-in-None-clause-adds g c = adds_more g.W.Write.contents c.args.out c.in_ok-out.out c.in_ok-out-in-None.out _ (adds_by g.W.Write.contents c.args.out c.in_ok-out.out _ c.in_ok-out.ensures.sent) c.in_ok-out-in-None.ensures.sent
