@@ -1,7 +1,7 @@
 //! What the tests run: a master of two revisions, a mirror on a disk, and a report that counts in digits.
 use crate::values::{MASTER, OTHER, created, log, number_of, some_token, some_value};
 use dump_load::{Change, ChangeSet};
-use fleet_disk::{Disk, DiskFile, MemDisk, Pick};
+use fleet_disk::{Disk, DiskFile, Fuse, FuseDisk, MemDisk, Pick};
 use gate_log::LogVersion;
 use node_base::{Action, NodeKind, NodePath, PropValue, Props, RevNo, Text};
 use repo_store::RepoStore;
@@ -154,21 +154,25 @@ pub(crate) fn job<D: Disk + Drop>(
     job_over(alloc, LentMaster::new(source), store, order, url, token)
 }
 
-/// Runs a job at the mirror of a disk, if that opens.
-pub(crate) fn run<D: Disk + Drop>(
+/// The store of a disk.
+pub(crate) fn opened<D: Disk + Drop>(rt: &impl Abort, alloc: Global, disk: D) -> RepoStore<D> {
+    match RepoStore::open(alloc, disk) {
+        Ok(store) => store,
+        Err(_) => rt.abort(),
+    }
+}
+
+/// Runs a job at the mirror of a disk.
+pub(crate) fn run(
     rt: &impl Abort,
     alloc: Global,
-    disk: D,
+    disk: MemDisk,
     source: &RepoStore<MemDisk>,
     order: &Order,
-) -> (D, Ran) {
-    match RepoStore::open(alloc, disk) {
-        Ok(store) => {
-            let (store, ran) = job(rt, alloc, store, source, order);
-            (store.into_disk(), ran)
-        }
-        Err((fault, disk)) => (disk, ended(0, fault.number())),
-    }
+) -> (MemDisk, Ran) {
+    let store = opened(rt, alloc, disk);
+    let (store, ran) = job(rt, alloc, store, source, order);
+    (store.into_disk(), ran)
 }
 
 /// A disk with an empty repository of its own identity.
@@ -187,6 +191,34 @@ pub(crate) fn synchronised(rt: &impl Abort, alloc: Global, source: &RepoStore<Me
     let begun = initialised(rt, alloc, source);
     let (disk, _ran) = run(rt, alloc, begun, source, &Order::Synchronize);
     disk.crash(Pick::New).expect(rt, "memory")
+}
+
+/// The disk at which a job begins.
+pub(crate) fn begun_for(
+    rt: &impl Abort,
+    alloc: Global,
+    source: &RepoStore<MemDisk>,
+    order: &Order,
+) -> MemDisk {
+    match order {
+        Order::Initialize => empty(rt, alloc),
+        Order::Synchronize | Order::Steal => initialised(rt, alloc, source),
+        Order::Copy(_, _) => synchronised(rt, alloc, source),
+    }
+}
+
+/// The store of a disk, of which one call fails once, behind an opening and so many calls.
+pub(crate) fn fused(
+    rt: &impl Abort,
+    alloc: Global,
+    disk: &MemDisk,
+    calls: u64,
+) -> RepoStore<FuseDisk<MemDisk>> {
+    let copy = disk.crash(Pick::New).expect(rt, "memory");
+    let opening = opened(rt, alloc, copy).into_disk().calls().len() as u64;
+    let copy = disk.crash(Pick::New).expect(rt, "memory");
+    let passing = opening.saturating_add(calls);
+    opened(rt, alloc, FuseDisk::new(copy, passing, Fuse::Once))
 }
 
 /// A disk with the entries of this one, its log in that version; this one's is in the second. The gates of the first are
@@ -212,24 +244,9 @@ pub(crate) fn in_version(
     made.expect(rt, "memory")
 }
 
-/// How many bytes the slots have.
-pub(crate) fn slots(disk: &MemDisk) -> usize {
-    disk.bytes(DiskFile::Slots).len()
-}
-
-/// How many bytes the gates of the first version have.
-pub(crate) fn gate(disk: &MemDisk) -> usize {
-    disk.bytes(DiskFile::Gate).len()
-}
-
-/// How many entries a disk has, that was opened since they were made.
+/// How many entries a disk has, whose log is of the second version, and that was opened since they were made.
 pub(crate) fn entries(disk: &MemDisk) -> usize {
-    let slots = slots(disk);
-    if slots == 0 {
-        gate(disk) / 9
-    } else {
-        slots / 25
-    }
+    disk.bytes(DiskFile::Slots).len() / 25
 }
 
 // Whether revision 0 has this property.
@@ -260,65 +277,4 @@ pub(crate) fn rests(alloc: Global, disk: MemDisk, head: u16, merged: &[u8]) -> b
         }
         Err(_) => false,
     }
-}
-
-// Whether this is a revision's log.
-fn is_log(store: &RepoStore<MemDisk>, number: u16, text: &[u8]) -> bool {
-    match store.repo().props(RevNo::new(number)) {
-        Some(props) => props.get(b"svn:log") == Some(text),
-        None => false,
-    }
-}
-
-/// Whether a disk opens with this log of a revision.
-pub(crate) fn has_log(alloc: Global, disk: MemDisk, number: u16, text: &[u8]) -> bool {
-    match RepoStore::open(alloc, disk) {
-        Ok(store) => {
-            let is = is_log(&store, number, text);
-            let _disk = store.into_disk();
-            is
-        }
-        Err(_) => false,
-    }
-}
-
-/// How long the gates of a disk's log are, where that is asked.
-#[derive(Clone, Copy)]
-pub(crate) enum Size {
-    Any,
-    /// The slots.
-    Slots(usize),
-    /// The gate file, of the first version, beside no slots.
-    Gate(usize),
-}
-
-fn has_size(disk: &MemDisk, size: &Size) -> bool {
-    match size {
-        Size::Any => true,
-        Size::Slots(count) => slots(disk) == *count,
-        Size::Gate(count) => gate(disk) == *count && slots(disk) == 0,
-    }
-}
-
-/// A job, how it ends, and how long the gates are then.
-pub(crate) type Step = (Order, u64, u8, Size);
-
-/// The first of these jobs, one behind another at the mirror of a disk, that ends otherwise; and the disk.
-pub(crate) fn run_all(
-    rt: &impl Abort,
-    alloc: Global,
-    disk: MemDisk,
-    source: &RepoStore<MemDisk>,
-    steps: &[Step],
-) -> (MemDisk, Option<u64>) {
-    let mut disk = disk;
-    for (place, step) in steps.iter().enumerate() {
-        let (order, told, number, size) = step;
-        let (left, ran) = run(rt, alloc, disk, source, order);
-        disk = left;
-        if ran != ended(*told, *number) || !has_size(&disk, size) {
-            return (disk, Some(place as u64));
-        }
-    }
-    (disk, None)
 }

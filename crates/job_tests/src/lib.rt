@@ -11,17 +11,7 @@ mod book_tests;
 #[cfg(test)]
 mod calls;
 #[cfg(test)]
-mod cell_tests;
-#[cfg(test)]
-mod entry_tests;
-#[cfg(test)]
 mod growth_tests;
-#[cfg(test)]
-mod holder;
-#[cfg(test)]
-mod holder_run_tests;
-#[cfg(test)]
-mod holder_seat_tests;
 #[cfg(test)]
 mod job_failure_tests;
 #[cfg(test)]
@@ -33,21 +23,17 @@ mod repo_tests;
 #[cfg(test)]
 mod rows;
 #[cfg(test)]
-mod runs_tests;
-#[cfg(test)]
 mod share_growth_tests;
 #[cfg(test)]
-mod share_job_tests;
-#[cfg(test)]
 mod share_run_tests;
+#[cfg(test)]
+mod share_seat_tests;
 #[cfg(test)]
 mod share_stop_tests;
 #[cfg(test)]
 mod shares;
 #[cfg(test)]
 mod stage_tests;
-#[cfg(test)]
-mod stated;
 #[cfg(test)]
 mod store_tests;
 #[cfg(test)]

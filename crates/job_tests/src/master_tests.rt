@@ -1,9 +1,9 @@
-//! A master that refuses a question.
+//! A master that refuses a question, and one that is held.
 use crate::jobs::{
-    COMMITTED_1, COMMITTED_ALONE, COPIED_0, COPIED_1, COPIED_BOTH, Order, Ran, empty, ended,
-    initialised, job_over, master, rests, run, synchronised, words,
+    COMMITTED_1, COMMITTED_ALONE, COPIED_0, COPIED_1, COPIED_BOTH, Order, Ran, begun_for, ended,
+    job_over, master, opened, rests, run, words,
 };
-use crate::values::none_wrong;
+use crate::values::{OTHER, created, none_wrong};
 use fleet_disk::{Disk, MemDisk};
 use node_base::{PropValue, Props, Refusal, RevNo};
 use path_tree::Tree;
@@ -11,7 +11,7 @@ use repo_store::RepoStore;
 use std::alloc::Global;
 use std::process::Abort;
 use std::rt::HostRuntime;
-use sync_job::{Fetched, LentMaster, MasterFault, MasterPort};
+use sync_job::{Fetched, HeldMaster, LentMaster, MasterFault, MasterPort};
 
 // A master that answers so many questions, and refuses all later ones.
 #[derive(Drop)]
@@ -73,10 +73,7 @@ fn refused_behind(
     order: &Order,
     left: u64,
 ) -> (MemDisk, Ran) {
-    let store = match RepoStore::open(alloc, disk) {
-        Ok(store) => store,
-        Err((fault, disk)) => return (disk, ended(0, fault.number())),
-    };
+    let store = opened(rt, alloc, disk);
     let master = Refusing {
         master: LentMaster::new(source),
         left,
@@ -102,20 +99,6 @@ fn told_behind(
     let (disk, later) = run(rt, alloc, disk, source, order);
     let well = first.number == 60 && later == ended(told, 0) && rests(alloc, disk, head, merged);
     if well { Some(first.told) } else { None }
-}
-
-// The disk at which a job begins.
-fn begun_for(
-    rt: &impl Abort,
-    alloc: Global,
-    source: &RepoStore<MemDisk>,
-    order: &Order,
-) -> MemDisk {
-    match order {
-        Order::Initialize => empty(rt, alloc),
-        Order::Synchronize | Order::Steal => initialised(rt, alloc, source),
-        Order::Copy(_, _) => synchronised(rt, alloc, source),
-    }
 }
 
 // The first number of answers behind which a refused job, and the one that goes on, don't tell what is due; the job that
@@ -158,37 +141,59 @@ const SYNCHRONISING: [(u64, u64); 4] = [
     (COMMITTED_ALONE, COPIED_1),
 ];
 
-#[test]
-fn a_master_refuses_each_question(rt: HostRuntime) {
-    let order = Order::Synchronize;
-    let wrong = first_untold(
-        &rt,
-        rt.alloc(),
-        &order,
-        &SYNCHRONISING,
-        COMMITTED_1,
-        1,
-        b"1",
-    );
-    none_wrong(&rt, "answers", wrong);
-}
-
 // The identity, and the properties of revision 0.
 const BEGINNING: [(u64, u64); 2] = [(0, COPIED_0), (0, COPIED_0)];
-
-#[test]
-fn a_master_refuses_to_be_mirrored(rt: HostRuntime) {
-    let order = Order::Initialize;
-    let wrong = first_untold(&rt, rt.alloc(), &order, &BEGINNING, COPIED_0, 0, b"0");
-    none_wrong(&rt, "answers", wrong);
-}
 
 // The identity, and the properties of either revision.
 const COPYING: [(u64, u64); 3] = [(0, COPIED_BOTH), (0, COPIED_BOTH), (COPIED_0, COPIED_BOTH)];
 
 #[test]
-fn a_master_refuses_each_map(rt: HostRuntime) {
-    let order = Order::Copy(0, 1);
-    let wrong = first_untold(&rt, rt.alloc(), &order, &COPYING, COPIED_BOTH, 1, b"1");
-    none_wrong(&rt, "answers", wrong);
+fn a_master_refuses_each_question(rt: HostRuntime) {
+    let alloc = rt.alloc();
+    let order = Order::Synchronize;
+    let wrong = first_untold(&rt, alloc, &order, &SYNCHRONISING, COMMITTED_1, 1, b"1");
+    none_wrong(&rt, "answers to a synchronisation", wrong);
+    let wrong = first_untold(
+        &rt,
+        alloc,
+        &Order::Initialize,
+        &BEGINNING,
+        COPIED_0,
+        0,
+        b"0",
+    );
+    none_wrong(&rt, "answers to an initialisation", wrong);
+    let wrong = first_untold(
+        &rt,
+        alloc,
+        &Order::Copy(0, 1),
+        &COPYING,
+        COPIED_BOTH,
+        1,
+        b"1",
+    );
+    none_wrong(&rt, "answers to a copying", wrong);
+}
+
+// A job at the mirror of a store, whose master is held and not lent; the store, and what was told.
+fn run_held(
+    rt: &impl Abort,
+    alloc: Global,
+    store: RepoStore<MemDisk>,
+    order: &Order,
+) -> (RepoStore<MemDisk>, Ran) {
+    let (url, token) = words(rt, alloc);
+    let held = HeldMaster::new(master(rt, alloc));
+    job_over(alloc, held, store, order, url, token)
+}
+
+#[test]
+fn a_held_master_is_asked_as_a_lent_one(rt: HostRuntime) {
+    let alloc = rt.alloc();
+    let store = created(&rt, alloc, OTHER);
+    let (store, begun) = run_held(&rt, alloc, store, &Order::Initialize);
+    let (store, done) = run_held(&rt, alloc, store, &Order::Synchronize);
+    let disk = store.into_disk();
+    assert!(rt; begun == ended(COPIED_0, 0) && done == ended(COMMITTED_1, 0));
+    assert!(rt; rests(alloc, disk, 1, b"1"));
 }

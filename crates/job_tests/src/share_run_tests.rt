@@ -1,14 +1,16 @@
-//! Jobs that run over a shared mirror, beside readers, and after a stop.
+//! Jobs that run over a shared mirror: beside readers, beside one another, and after a stop.
 
 ghost use Rattle.mirror_share.specs.Names.{IsNamed};
 
-use crate::share_job_tests::{is_copied, one_holds, tells_props};
+use crate::share_seat_tests::{is_carried, one_holds, tells_props};
 use crate::shares::{REVISIONS, Untold, blank, called, master, opened, seat};
 use crate::values::{number_of, token, value};
 use fleet_disk::{MemDisk, Pick};
-use mirror_share::{JobSeat, MirrorName, MirrorShare, OpenedMirror, SeatMirror};
+use mirror_share::{
+    JobSeat, MirrorName, MirrorShare, OpenedMirror, SeatMirror, law, run_copy_revprops_at,
+    run_sync_at,
+};
 use node_base::RevNo;
-use repo_store::RepoStore;
 use std::alloc::Global;
 use std::marker::Brand;
 use std::process::Abort;
@@ -18,7 +20,7 @@ use std::thread;
 use std::thread::Threads;
 use store_share::ReaderSeat;
 use sync_core::MirrorCall;
-use sync_job::{JobPorts, LentMaster, run_copy_revprops, run_init, run_sync};
+use sync_job::{JobPorts, LentMaster, run_init};
 
 // What a job is to do.
 #[derive(Clone, Copy)]
@@ -29,30 +31,32 @@ enum Order {
     CopyProps,
 }
 
-// The number of the refusal of a run, 0 where it ends well.
+// A run of a job under this token, from a master of its own: the number of the refusal, 0 where it ends well.
 fn ran<R: Wait + Abort, L: MirrorName>(
     rt: &R,
     alloc: Global,
     share: &MirrorShare<L, MemDisk>,
-    source: &RepoStore<MemDisk>,
+    name: &[u8],
     order: Order,
 ) -> u8 {
-    let seat = seat(rt, alloc, share, b"job");
+    let source = master(rt, alloc);
+    let seat = seat(rt, alloc, share, name);
     let Ok(mirror) = SeatMirror::new(rt, alloc, share, seat) else {
         rt.abort()
     };
-    let mut ports = JobPorts::new(alloc, LentMaster::new(source), mirror, Untold {});
-    let token = token(rt, alloc, b"job");
+    let mut ports = JobPorts::new(alloc, LentMaster::new(&source), mirror, Untold {});
+    let token = token(rt, alloc, name);
     let answer = match order {
         Order::Initialise => run_init(alloc, &mut ports, value(rt, alloc, b"master")),
-        Order::Synchronise => run_sync(alloc, &mut ports, token, false),
-        Order::Steal => run_sync(alloc, &mut ports, token, true),
+        Order::Synchronise => run_sync_at(alloc, &mut ports, token, false),
+        Order::Steal => run_sync_at(alloc, &mut ports, token, true),
         Order::CopyProps => {
-            run_copy_revprops(alloc, &mut ports, token, RevNo::ZERO, RevNo::new(REVISIONS))
+            run_copy_revprops_at(alloc, &mut ports, token, RevNo::ZERO, RevNo::new(REVISIONS))
         }
     };
     let (_source, mirror, _report) = ports.into_parts();
     share.leave(rt, mirror.into_seat());
+    let _disk = source.into_disk();
     number_of(answer)
 }
 
@@ -62,11 +66,8 @@ fn brought_up<R: Wait + Abort, L: MirrorName>(
     alloc: Global,
     share: &MirrorShare<L, MemDisk>,
 ) -> (u8, u8) {
-    let source = master(rt, alloc);
-    let begun = ran(rt, alloc, share, &source, Order::Initialise);
-    let synced = ran(rt, alloc, share, &source, Order::Synchronise);
-    let _disk = source.into_disk();
-    (begun, synced)
+    let begun = ran(rt, alloc, share, b"job", Order::Initialise);
+    (begun, ran(rt, alloc, share, b"job", Order::Synchronise))
 }
 
 // Whether a revision of the mirror has this log.
@@ -100,18 +101,15 @@ fn is_whole<R: Wait + Abort, L: MirrorName>(
         && has_log(rt, share, 2, b"ho")
 }
 
-// A mirror is begun, brought up, and its properties are copied again.
-fn is_brought_up<R: Wait + Abort, L: MirrorName>(
+// Whether a run more of each kind, which nobody disturbs, ends well, and the mirror has all of its master.
+fn goes_on<R: Wait + Abort, L: MirrorName>(
     rt: &R,
     alloc: Global,
     share: &MirrorShare<L, MemDisk>,
 ) -> bool {
-    let numbers = brought_up(rt, alloc, share);
-    let source = master(rt, alloc);
-    let copied = ran(rt, alloc, share, &source, Order::CopyProps);
-    let again = ran(rt, alloc, share, &source, Order::Synchronise);
-    let _disk = source.into_disk();
-    numbers == (0, 0) && copied == 0 && again == 0 && is_whole(rt, alloc, share)
+    let copied = ran(rt, alloc, share, b"c", Order::CopyProps);
+    let again = ran(rt, alloc, share, b"c", Order::Synchronise);
+    (copied, again) == (0, 0) && is_whole(rt, alloc, share)
 }
 
 // Whether no revision that a reader is told as the newest is below one before, or lacks its tree, over so many looks.
@@ -148,20 +146,62 @@ fn is_read_beside<R: Threads + Wait + Abort + Sync, L: MirrorName + Send + Sync>
         move || brought_up(rt, alloc, share),
         move || never_falls(rt, share, one, 300) && never_falls(rt, share, other, 300),
     );
-    numbers == (0, 0) && all && is_whole(rt, alloc, share)
+    numbers == (0, 0) && all && goes_on(rt, alloc, share)
 }
 
-// Whether a job that was stopped between its calls is followed by one that steals its lock and brings the mirror up.
-fn goes_on<R: Wait + Abort, L: MirrorName>(
+// How often a job runs at most; it ends before by what it sees.
+const RUNS: u32 = 100_000;
+
+// What a job answers that never saw the mirror whole.
+const MISSED: u8 = 255;
+
+// Runs until the mirror has all of the master. Another's lock ends a run (54), or that it runs (55) one that steals; none
+// of its calls is refused for its lock (59) or its turn (61).
+fn runs<R: Wait + Abort, L: MirrorName>(
+    rt: &R,
+    alloc: Global,
+    share: &MirrorShare<L, MemDisk>,
+    name: &[u8],
+    order: Order,
+) -> u8 {
+    let mut reader = share.enter_reader(rt, alloc).expect(rt, "a seat");
+    for _ in 0..RUNS {
+        let number = ran(rt, alloc, share, name, order);
+        if number != 0 && number != 54 && number != 55 {
+            return number;
+        }
+        if share.latest(rt, &mut reader) == RevNo::new(REVISIONS) {
+            return 0;
+        }
+        thread::yield_now();
+    }
+    MISSED
+}
+
+// Two jobs in threads, one of which steals.
+fn run_beside<R: Threads + Wait + Abort + Sync, L: MirrorName + Send + Sync>(
     rt: &R,
     alloc: Global,
     share: &MirrorShare<L, MemDisk>,
 ) -> bool {
-    let source = master(rt, alloc);
-    let held = ran(rt, alloc, share, &source, Order::Synchronise);
-    let stolen = ran(rt, alloc, share, &source, Order::Steal);
-    let _disk = source.into_disk();
-    held == 54 && stolen == 0 && is_whole(rt, alloc, share)
+    let begun = ran(rt, alloc, share, b"i", Order::Initialise);
+    let answers = thread::join(
+        rt,
+        move || runs(rt, alloc, share, b"a", Order::Synchronise),
+        move || runs(rt, alloc, share, b"b", Order::Steal),
+    );
+    begun == 0 && answers == (0, 0) && goes_on(rt, alloc, share)
+}
+
+// Whether a job that was stopped between its calls is followed by one that steals its lock and brings the mirror up.
+fn is_followed<R: Wait + Abort, L: MirrorName>(
+    rt: &R,
+    alloc: Global,
+    share: &MirrorShare<L, MemDisk>,
+) -> bool {
+    let held = ran(rt, alloc, share, b"job", Order::Synchronise);
+    let stolen = ran(rt, alloc, share, b"job", Order::Steal);
+    (held, stolen) == (54, 0) && is_whole(rt, alloc, share)
 }
 
 // Takes the lock and says that revision 1 is being copied, and leaves it at that.
@@ -170,32 +210,25 @@ fn leaves_off<R: Wait + Abort, L: MirrorName>(
     alloc: Global,
     share: &MirrorShare<L, MemDisk>,
 ) -> bool {
-    let source = master(rt, alloc);
-    let begun = ran(rt, alloc, share, &source, Order::Initialise);
-    let _disk = source.into_disk();
+    let begun = ran(rt, alloc, share, b"job", Order::Initialise);
     let mut seat: JobSeat<L> = seat(rt, alloc, share, b"job");
     let token = token(rt, alloc, b"job");
+    let copying = MirrorCall::SetCopying(RevNo::new(1));
     let taken = called(rt, alloc, share, &mut seat, &MirrorCall::TakeLock(&token));
-    let copying = called(
-        rt,
-        alloc,
-        share,
-        &mut seat,
-        &MirrorCall::SetCopying(RevNo::new(1)),
-    );
-    (begun, taken, copying) == (0, 0, 0)
+    let said = called(rt, alloc, share, &mut seat, &copying);
+    (begun, taken, said) == (0, 0, 0)
 }
 
-// What is tried; the first three are those of `job_tests`.
+// What is tried; the first three are those of `share_seat_tests`.
 #[derive(Clone, Copy)]
 pub(crate) enum Case {
+    Carried,
     Holds,
-    Copied,
     Props,
-    Up,
-    Beside,
-    GoesOn,
+    Readers,
+    Jobs,
     LeavesOff,
+    Followed,
 }
 
 fn judged<R: Threads + Wait + Abort + Sync, L: MirrorName + Send + Sync>(
@@ -206,15 +239,16 @@ fn judged<R: Threads + Wait + Abort + Sync, L: MirrorName + Send + Sync>(
 ) -> (MemDisk, bool)
     requires { IsNamed opened L.cells L.merged L.copying L.head L.holder }
 {
+    law::a_run_is_served();
     let share = MirrorShare::<L, MemDisk>::of(alloc, opened);
     let answer = match case {
+        Case::Carried => is_carried(rt, alloc, &share),
         Case::Holds => one_holds(rt, alloc, &share),
-        Case::Copied => is_copied(rt, alloc, &share),
         Case::Props => tells_props(rt, alloc, &share),
-        Case::Up => is_brought_up(rt, alloc, &share),
-        Case::Beside => is_read_beside(rt, alloc, &share),
-        Case::GoesOn => goes_on(rt, alloc, &share),
+        Case::Readers => is_read_beside(rt, alloc, &share),
+        Case::Jobs => run_beside(rt, alloc, &share),
         Case::LeavesOff => leaves_off(rt, alloc, &share),
+        Case::Followed => is_followed(rt, alloc, &share),
     };
     let store = share.close().into_book().into_store();
     (store.into_disk(), answer)
@@ -236,24 +270,20 @@ pub(crate) fn passes<R: Threads + Wait + Abort + Sync>(rt: &R, alloc: Global, ca
 }
 
 #[test]
-fn a_mirror_is_begun_and_brought_up(rt: HostRuntime) {
-    assert!(rt; passes(&rt, rt.alloc(), Case::Up));
+fn readers_read_beside_a_job(rt: HostRuntime) {
+    assert!(rt; passes(&rt, rt.alloc(), Case::Readers));
 }
 
 #[test]
-fn readers_read_beside_a_job(rt: HostRuntime) {
-    assert!(rt; passes(&rt, rt.alloc(), Case::Beside));
+fn jobs_run_beside_one_another(rt: HostRuntime) {
+    assert!(rt; passes(&rt, rt.alloc(), Case::Jobs));
 }
 
 // Of a machine that stops in a job whatever was written but not synced is lost or there: what was answered stands.
 fn goes_on_after<R: Threads + Wait + Abort + Sync>(rt: &R, alloc: Global, pick: Pick) -> bool {
     let (disk, left) = on(rt, alloc, blank(rt, alloc), Case::LeavesOff);
-    let (_disk, whole) = on(
-        rt,
-        alloc,
-        disk.crash(pick).expect(rt, "memory"),
-        Case::GoesOn,
-    );
+    let disk = disk.crash(pick).expect(rt, "memory");
+    let (_disk, whole) = on(rt, alloc, disk, Case::Followed);
     left && whole
 }
 

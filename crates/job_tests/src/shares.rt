@@ -2,6 +2,8 @@
 ghost use Rattle.std.specs.Prelude.{◌≡◌, None};
 ghost use Rattle.mirror_share.specs.Seats.{hand_of};
 
+use crate::calls::{Kind, Parts};
+use crate::jobs;
 use crate::values::{MASTER, OTHER, created, log, number_of, some_store, token};
 use dump_load::{Change, ChangeSet};
 use fleet_disk::{Disk, MemDisk};
@@ -11,7 +13,7 @@ use repo_store::RepoStore;
 use std::alloc::Global;
 use std::process::Abort;
 use std::sync::Wait;
-use sync_core::MirrorCall;
+use sync_core::{MirrorCall, Reply, SyncFault};
 use sync_job::Report;
 
 /// How many revisions a master has above revision 0.
@@ -76,11 +78,7 @@ pub(crate) fn master(rt: &impl Abort, alloc: Global) -> RepoStore<MemDisk> {
 
 /// A mirror that is opened on a disk.
 pub(crate) fn opened<D: Disk + Drop>(rt: &impl Abort, alloc: Global, disk: D) -> OpenedMirror<D> {
-    let store = match RepoStore::open(alloc, disk) {
-        Ok(store) => store,
-        Err(_refused) => rt.abort(),
-    };
-    match OpenedMirror::of(alloc, store) {
+    match OpenedMirror::of(alloc, jobs::opened(rt, alloc, disk)) {
         Ok(opened) => opened,
         Err(_refused) => rt.abort(),
     }
@@ -114,4 +112,28 @@ pub(crate) fn called<R: Wait, L: MirrorName, D: Disk>(
     call: &MirrorCall<'_>,
 ) -> u8 {
     number_of(share.step(rt, alloc, seat, call))
+}
+
+/// Makes the mirror one of a master that has the log `hi` on revision 0.
+pub(crate) fn begun<R: Wait + Abort, L: MirrorName>(
+    rt: &R,
+    alloc: Global,
+    share: &MirrorShare<L, MemDisk>,
+    seat: &mut JobSeat<L>,
+) -> u8 {
+    let parts = Parts::new(alloc, b"i").expect(rt, "memory");
+    let answer = called(rt, alloc, share, seat, &parts.call(Kind::Init));
+    drop(parts);
+    answer
+}
+
+/// Whether a look's answer tells this head, and so much merged.
+pub(crate) fn is_at(answer: Result<Reply, SyncFault>, head: u16, merged: &[u8]) -> bool {
+    match answer {
+        Ok(Reply::Seen(standing)) => match &standing.merged_text {
+            Some(text) => standing.head == RevNo::new(head) && text.as_slice() == merged,
+            None => false,
+        },
+        _ => false,
+    }
 }

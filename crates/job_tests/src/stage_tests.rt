@@ -1,15 +1,22 @@
 //! What is staged: it changes nothing until it is installed.
 
 use crate::repo_tests::{empty_repo, first_repo, has_head, let_go, there};
-use crate::stated::{DIR, LOG, name, path, set};
-use node_base::{Action, Props, RevNo};
+use crate::shares::some_added;
+use crate::values::{name, path};
+use dump_load::ChangeSet;
+use node_base::{Props, RevNo};
 use repo_core::{Entry, Expected, Repo, Staged};
 use std::alloc::Global;
 use std::process::Abort;
 
-// A directory b is staged behind revision 1.
+// The set that adds a directory b.
+fn added(rt: &impl Abort, alloc: Global) -> ChangeSet {
+    some_added(alloc, b"b").expect(rt, "a set")
+}
+
+// It is staged behind revision 1.
 fn staged(rt: &impl Abort, alloc: Global, repo: &Repo) -> Staged {
-    let added = set(rt, alloc, &[("b", Action::Add, DIR, None)]);
+    let added = added(rt, alloc);
     let staged = repo.stage_commit(alloc, RevNo::new(1), added, Props::empty(), None);
     staged.expect(rt, "a staged revision")
 }
@@ -75,7 +82,7 @@ fn what_is_staged_is_an_entry(rt: HostRuntime) {
 
 // The log of revision 1 is to go.
 fn unlogged(rt: &impl Abort, alloc: Global, repo: &Repo) -> Staged {
-    let log = name(rt, alloc, LOG);
+    let log = name(rt, alloc, b"svn:log");
     let staged = repo.stage_change_prop(alloc, RevNo::new(1), &log, None, &Expected::DontCare);
     staged.expect(rt, "a staged change")
 }
@@ -101,7 +108,7 @@ fn what_is_staged_of_properties_is_an_entry(rt: HostRuntime) {
 
 // Whether a directory b is staged behind revision 1, and installed.
 fn is_installed(rt: &impl Abort, alloc: Global, repo: &mut Repo) -> bool {
-    let added = set(rt, alloc, &[("b", Action::Add, DIR, None)]);
+    let added = added(rt, alloc);
     match repo.stage_commit(alloc, RevNo::new(1), added, Props::empty(), None) {
         Ok(staged) => {
             repo.install(staged);

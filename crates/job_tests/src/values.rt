@@ -1,7 +1,7 @@
-//! What calls are given: identities, values, tokens, logs and stores; and what is made of their answers.
+//! What calls are given: identities, paths, values, tokens, logs and stores; and what is made of their answers.
 
 use fleet_disk::MemDisk;
-use node_base::{PropName, PropValue, Props};
+use node_base::{NodePath, PropName, PropValue, Props};
 use repo_store::RepoStore;
 use std::alloc::Global;
 use std::process::Abort;
@@ -20,6 +20,16 @@ pub(crate) fn number_of<T: Drop>(answer: Result<T, SyncFault>) -> u8 {
         Ok(_) => 0,
         Err(fault) => fault.number(),
     }
+}
+
+/// A path.
+pub(crate) fn path(rt: &impl Abort, alloc: Global, text: &str) -> NodePath {
+    NodePath::parse(alloc, text.as_bytes()).expect(rt, "a path")
+}
+
+/// A property's name.
+pub(crate) fn name(rt: &impl Abort, alloc: Global, text: &[u8]) -> PropName {
+    PropName::parse(alloc, text).expect(rt, "a property's name")
 }
 
 /// A property's value; None where memory is refused.
