@@ -2,11 +2,11 @@
 use Rattle.std.proofs.Common.{◌≡◌, ℕ, suc, ◌≤◌, ◌<◌, ◌+◌, inl, inr, Bool, true, false, List, [], ◌∷◌, ◌++◌, take, drop, length, get_or, Option, Some, None, Result, Ok, Err, true≢false, refl, sym, ap, subst, ◌∙◌, append_assoc, append-nil, arith}
 use Rattle.std.proofs.KnownBytes.{Appends-trans}
 use Rattle.std.proofs.lemmas.Bool.Decides.{nat_tests}
-use Rattle.std.proofs.lemmas.List.{drop_all, drop_more, take_more, take_all}
+use Rattle.std.proofs.lemmas.List.{drop_all, drop_more, take_more}
 use Rattle.std.proofs.lemmas.List.Elements.{All-weaker, All-contains, All-contains_itself, All-from_recursion, recursion_from_All}
 use Rattle.std.proofs.lemmas.List.Sorted.{Contains-permutation, IsPermutation-sym, IsPermutation-reverse}
 use Rattle.std.specs.Prelude.{IfOk, is_none, not, ◌&&◌, nat_lt, reverse, if◌then◌else◌}
-use Rattle.std.specs.List.{All, AllByRecursion, Contains}
+use Rattle.std.specs.List.{AllByRecursion, Contains}
 use Rattle.std.specs.FinMap as finite
 use Rattle.std.specs.Io.KnownBytes.{Appends}
 use Rattle.fleet_disk.specs.Rules.{Rose}
@@ -41,7 +41,7 @@ use Rattle.ra_browse.specs.declared.stop.Stop.TheVariants as stop
 use Rattle.ra_browse.specs.declared.versions.VersionsSought.{VersionsSought}
 use Rattle.ra_browse.specs.Denials.{denied, unless_denied}
 use Rattle.ra_browse.specs.Histories.{Found, Nothing, Stood, Logged, PastLimits, newer, down_to, up_to, AreVersions, FindsVersions, FindsVersionsIf, places_of, versions_of, found_denied}
-use Rattle.ra_browse.specs.Answers.{no_revision, place_denied, file_denied, backward, version_denied, versions_denied}
+use Rattle.ra_browse.specs.Answers.{no_revision, place_denied, file_denied, version_denied, versions_denied}
 use Rattle.ra_browse.specs.Tellings.{MayStop, Comes, TellsBehind, TellsVersions, AreRows, AreVersionsSought, Replied, Tells, Denies, Decides}
 use Rattle.ra_browse.proofs.Causes.{is_there}
 use Rattle.ra_browse.proofs.Fronts.{line_whole}

@@ -11,6 +11,7 @@ ghost use Rattle.browse_wire.specs.Asks.{Plain, ask_as};
 ghost use Rattle.browse_wire.specs.AskReading.{ask_in};
 ghost use Rattle.browse_wire.specs.Told.{no_locks};
 ghost use Rattle.browse_wire.specs.Urls.{Url};
+ghost use Rattle.ra_serve.specs.Tellings.{GivesMore};
 ghost use Rattle.ra_browse.specs.Answers.{behind, is_answered, moved, unanswered};
 ghost use Rattle.ra_browse.specs.Tellings.{place_as, PortStays};
 ghost use Rattle.ra_browse.specs.Writing.{TellsItem, Replies, AnswersItem};
@@ -52,6 +53,7 @@ pub fn answer<P: RepoPort, W: Write + Drop>(
 ) -> Result<W, ServeFault>
     ensures told { AnswersItem P.RepoPort W.Write port.old port.new out (place_as place.old) (ask_in item) result }
     ensures moved { IfOk result (λ _. place_as place.new ≡ behind (place_as place.old) (ask_in item)) }
+    ensures adds { GivesMore W.contents out result }
     ensures stays { PortStays P.RepoPort port.old port.new }
 {
     match BrowseCommand::parse(alloc, item) {
@@ -75,6 +77,7 @@ pub fn command_answer<P: RepoPort, W: Write + Drop>(
     ensures told { AnswersItem P.RepoPort W.Write port.old port.new out (place_as place.old)
         (Ok (ask_as command.now)) result }
     ensures moved { IfOk result (λ _. place_as place.new ≡ moved (place_as place.old) (ask_as command.now)) }
+    ensures adds { GivesMore W.contents out result }
     ensures stays { PortStays P.RepoPort port.old port.new }
 {
     if is_answered(command) {
@@ -95,6 +98,7 @@ fn answered<P: RepoPort, W: Write + Drop>(
     ensures told { AnswersItem P.RepoPort W.Write port.old port.new out (place_as place.old)
         (Ok (ask_as command.now)) result }
     ensures moved { IfOk result (λ _. place_as place.new ≡ moved (place_as place.old) (ask_as command.now)) }
+    ensures adds { GivesMore W.contents out result }
     ensures stays { PortStays P.RepoPort port.old port.new }
 {
     match authorise(out) {
@@ -162,6 +166,7 @@ fn reply<P: RepoPort, W: Write + Drop>(
 ) -> Result<W, ServeFault>
     ensures told { Replies P.RepoPort W.Write port.old port.new out (place_as place.old) (ask_as command.now) result }
     ensures moved { IfOk result (λ _. place_as place.new ≡ moved (place_as place.old) (ask_as command.now)) }
+    ensures adds { GivesMore W.contents out result }
     ensures stays { PortStays P.RepoPort port.old port.new }
 {
     match command {
@@ -205,6 +210,7 @@ fn plain<P: RepoPort, W: Write + Drop>(
 ) -> Result<W, ServeFault>
     ensures told { Replies P.RepoPort W.Write port.old port.new out (place_as place.now)
         (Plain (command_as command.now)) result }
+    ensures adds { GivesMore W.contents out result }
     ensures stays { PortStays P.RepoPort port.old port.new }
 {
     match command {
@@ -232,6 +238,7 @@ fn plain<P: RepoPort, W: Write + Drop>(
 
 fn latest<P: RepoPort, W: Write + Drop>(port: &mut P, out: W) -> Result<W, ServeFault>
     ensures told { (at : Url) → Replies P.RepoPort W.Write port.old port.new out at (Plain LatestRev) result }
+    ensures adds { GivesMore W.contents out result }
     ensures stays { PortStays P.RepoPort port.old port.new }
 {
     match port.latest() {
@@ -254,6 +261,7 @@ fn check_path<P: RepoPort, W: Write + Drop>(
 ) -> Result<W, ServeFault>
     ensures told { Replies P.RepoPort W.Write port.old port.new out (place_as place.now)
         (Plain (CheckPath path.now number)) result }
+    ensures adds { GivesMore W.contents out result }
     ensures stays { PortStays P.RepoPort port.old port.new }
 {
     match joined(alloc, &place.path, path) {
@@ -271,6 +279,7 @@ fn tell_kind<P: RepoPort, W: Write + Drop>(
 ) -> Result<W, ServeFault>
     ensures told { (at : Url) (p : Path) → names.now ≡ at.1 ++ p → Replies P.RepoPort W.Write port.old port.new out at
         (Plain (CheckPath p number)) result }
+    ensures adds { GivesMore W.contents out result }
     ensures stays { PortStays P.RepoPort port.old port.new }
 {
     match tree_asked(port, number) {
@@ -300,6 +309,7 @@ fn proplist<P: RepoPort, W: Write + Drop>(
 ) -> Result<W, ServeFault>
     ensures told { (at : Url) → Replies P.RepoPort W.Write port.old port.new out at
         (Plain (RevProplist number)) result }
+    ensures adds { GivesMore W.contents out result }
     ensures stays { PortStays P.RepoPort port.old port.new }
 {
     match props_asked(port, number) {
@@ -320,6 +330,7 @@ fn prop<P: RepoPort, W: Write + Drop>(
 ) -> Result<W, ServeFault>
     ensures told { (at : Url) → Replies P.RepoPort W.Write port.old port.new out at
         (Plain (RevProp number name.now)) result }
+    ensures adds { GivesMore W.contents out result }
     ensures stays { PortStays P.RepoPort port.old port.new }
 {
     match props_asked(port, number) {

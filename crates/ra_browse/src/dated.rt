@@ -5,6 +5,7 @@ ghost use Rattle.std.specs.Cmp.Lexicographic.{pointwise};
 ghost use Rattle.repo_core.specs.Repository.{props_at};
 ghost use Rattle.browse_wire.specs.Asks.{DatedRev};
 ghost use Rattle.browse_wire.specs.Urls.{Url};
+ghost use Rattle.ra_serve.specs.Tellings.{GivesMore};
 ghost use Rattle.ra_browse.specs.Answers.{dated, dated_denied, no_revision};
 ghost use Rattle.ra_browse.specs.Dates.{fits_in, is_by, is_date, is_later, newest_by};
 ghost use Rattle.ra_browse.specs.Seeking.{FindsIn};
@@ -28,6 +29,7 @@ pub fn get_dated_rev<P: RepoPort, W: Write + Drop>(
     out: W,
 ) -> Result<W, ServeFault>
     ensures told { (at : Url) → Replies P.RepoPort W.Write port.old port.new out at (DatedRev date.now) result }
+    ensures adds { GivesMore W.contents out result }
     ensures stays { PortStays P.RepoPort port.old port.new }
 {
     match find(port, date) {

@@ -5,6 +5,7 @@ ghost use Rattle.ra_wire.specs.Answers.{dirent_as};
 ghost use Rattle.ra_wire.specs.Commands.{GetDir};
 ghost use Rattle.ra_wire.specs.Replies.{dirent, list};
 ghost use Rattle.browse_wire.specs.Asks.{Plain};
+ghost use Rattle.ra_serve.specs.Tellings.{GivesMore};
 ghost use Rattle.ra_browse.specs.Answers.{entry_of, entry_with};
 ghost use Rattle.ra_browse.specs.Seeking.{FindsEntry};
 ghost use Rattle.ra_browse.specs.Tellings.{made_as, place_as, AreEntries, Finds, PortStays};
@@ -42,6 +43,7 @@ pub fn get_dir<P: RepoPort, W: Write + Drop>(
 ) -> Result<W, ServeFault>
     ensures told { Replies P.RepoPort W.Write port.old port.new out (place_as place.now)
         (Plain (GetDir path.now number wanted.props wanted.contents)) result }
+    ensures adds { GivesMore W.contents out result }
     ensures stays { PortStays P.RepoPort port.old port.new }
 {
     let seen = match see(alloc, port, &place.path, path, number) {

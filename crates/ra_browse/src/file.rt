@@ -6,6 +6,7 @@ ghost use Rattle.md5.specs.Md5.{md5};
 ghost use Rattle.ra_wire.specs.Commands.{GetFile};
 ghost use Rattle.ra_wire.specs.Replies.{string};
 ghost use Rattle.browse_wire.specs.Asks.{Plain};
+ghost use Rattle.ra_serve.specs.Tellings.{GivesMore};
 ghost use Rattle.ra_browse.specs.Answers.{file_found};
 ghost use Rattle.ra_browse.specs.Tellings.{place_as, PortStays};
 ghost use Rattle.ra_browse.specs.Writing.{TellsBytes, Replies, seen_props, file_item, file_body, file_seen};
@@ -43,6 +44,7 @@ pub fn get_file<P: RepoPort, W: Write + Drop>(
 ) -> Result<W, ServeFault>
     ensures told { Replies P.RepoPort W.Write port.old port.new out (place_as place.now)
         (Plain (GetFile path.now number wanted.props wanted.contents)) result }
+    ensures adds { GivesMore W.contents out result }
     ensures stays { PortStays P.RepoPort port.old port.new }
 {
     match see(alloc, port, &place.path, path, number) {

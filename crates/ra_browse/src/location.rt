@@ -6,6 +6,7 @@ ghost use Rattle.std.specs.FinMap as finite;
 ghost use Rattle.repo_core.specs.Repository.{Repository};
 ghost use Rattle.browse_wire.specs.Asks.{Locations};
 ghost use Rattle.path_history.specs.Places.{place};
+ghost use Rattle.ra_serve.specs.Tellings.{GivesMore};
 ghost use Rattle.ra_browse.specs.Histories.{newer, newest, places_told};
 ghost use Rattle.ra_browse.specs.Answers.{no_revision, stood_denied};
 ghost use Rattle.ra_browse.specs.Seeking.{FindsUpTo, StandsAt, SeeksPlaces, WithSets};
@@ -49,6 +50,7 @@ pub fn get_locations<P: RepoPort, W: Write + Drop>(
 ) -> Result<W, ServeFault>
     ensures told { Replies P.RepoPort W.Write port.old port.new out (place_as place.now)
         (Locations path.now peg numbers.now) result }
+    ensures adds { GivesMore W.contents out result }
     ensures stays { PortStays P.RepoPort port.old port.new }
 {
     match seek(alloc, port, &place.path, path, peg, numbers) {

@@ -6,6 +6,7 @@ ghost use Rattle.std.specs.Io.Buffered.{writer_contents};
 ghost use Rattle.repo_core.specs.Repository.{Repository, trees_of};
 ghost use Rattle.browse_wire.specs.Asks.{Log};
 ghost use Rattle.ra_serve.specs.Answers.{asked};
+ghost use Rattle.ra_serve.specs.Tellings.{GivesMore};
 ghost use Rattle.ra_history.specs.Rows.{props_of};
 ghost use Rattle.ra_log.specs.Entries.{log_as};
 ghost use Rattle.ra_log.specs.Rows.{entries_in};
@@ -54,6 +55,7 @@ pub fn get_log<P: RepoPort, W: Write + Drop>(
 ) -> Result<W, ServeFault>
     ensures told { Replies P.RepoPort W.Write port.old port.new out (place_as place.now)
         (Log (log_as order.now)) result }
+    ensures adds { GivesMore W.contents out result }
     ensures stays { PortStays P.RepoPort port.old port.new }
 {
     match seek(alloc, port, &place.path, order) {

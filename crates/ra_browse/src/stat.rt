@@ -4,6 +4,7 @@ ghost use Rattle.std.specs.Prelude.{◌≡◌, IfOk};
 ghost use Rattle.std.specs.Option.{option_copied};
 ghost use Rattle.browse_wire.specs.Asks.{Stat};
 ghost use Rattle.browse_wire.specs.Told.{stat_answer};
+ghost use Rattle.ra_serve.specs.Tellings.{GivesMore};
 ghost use Rattle.ra_browse.specs.Answers.{size_told, stat_told};
 ghost use Rattle.ra_browse.specs.Tellings.{made_as, place_as, PortStays};
 ghost use Rattle.ra_browse.specs.Writing.{TellsItem, Replies, seen_node};
@@ -28,6 +29,7 @@ pub fn stat<P: RepoPort, W: Write + Drop>(
     out: W,
 ) -> Result<W, ServeFault>
     ensures told { Replies P.RepoPort W.Write port.old port.new out (place_as place.now) (Stat path.now number) result }
+    ensures adds { GivesMore W.contents out result }
     ensures stays { PortStays P.RepoPort port.old port.new }
 {
     match see(alloc, port, &place.path, path, number) {

@@ -5,6 +5,7 @@ ghost use Rattle.std.specs.FinMap as finite;
 ghost use Rattle.browse_wire.specs.Asks.{FileRevs};
 ghost use Rattle.path_history.specs.Histories.{IsTooLong};
 ghost use Rattle.path_history.specs.declared.fault.HistoryFault.TheVariants.{TooLong};
+ghost use Rattle.ra_serve.specs.Tellings.{GivesMore};
 ghost use Rattle.ra_browse.specs.Histories.{down_to, AreVersions};
 ghost use Rattle.ra_browse.specs.Answers.{file_denied};
 ghost use Rattle.ra_browse.specs.Seeking.{SeeksVersions, SeeksVersionsBetween, SeeksVersionsOf};
@@ -50,6 +51,7 @@ pub fn get_file_revs<P: RepoPort, W: Write + Drop>(
 ) -> Result<W, ServeFault>
     ensures told { (merged : Bool) → Replies P.RepoPort W.Write port.old port.new out (place_as place.now)
         (FileRevs path.now start end merged) result }
+    ensures adds { GivesMore W.contents out result }
     ensures stays { PortStays P.RepoPort port.old port.new }
 {
     match seek(alloc, port, &place.path, path, start, end) {

@@ -9,6 +9,7 @@ use Rattle.repo_core.specs.Repository.{props_at}
 use Rattle.ra_browse.specs.Answers.{no_revision}
 use Rattle.ra_browse.proofs.Causes.{is_there}
 use Rattle.ra_browse.proofs.Exits.{tells_stop, told_there}
+use Rattle.ra_browse.proofs.Adding.{more_stopped}
 use Rattle.ra_browse.proofs.answer.prop.Goals as goal
 
 pub returns-in-Err-clause-told : goal.returns-in-Err-clause-told
@@ -21,3 +22,6 @@ returns-in_ok-write_value-in-Ok-clause-told g c = λ at x e.
     told_there x at (Plain (RevProp c.args.number c.args.name.now)) _ _ _ (λ h. refl, refl) (is_there x c.args.number (c.in-Ok.ensures.there x e))
     (subst (λ v. Appends (g.W.Write.contents c.args.out) (g.W.Write.contents c.write_value.new.out) (spell (value v)))
     (c.get.ensures ∙ ap (λ m. finite.get m c.as_bytes.result.now) (c.in-Ok.ensures.props x e) ∙ ap (finite.get (props_at x.revisions c.args.number)) c.as_bytes.ensures) c.in_ok-write_value-in-Ok.ensures)
+
+pub returns-in-Err-clause-adds : goal.returns-in-Err-clause-adds
+returns-in-Err-clause-adds g c = more_stopped g.W.Write.contents c.args.out c.tell.result c.stopped.result c.tell.ensures

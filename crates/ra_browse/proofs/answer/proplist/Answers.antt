@@ -7,6 +7,7 @@ use Rattle.browse_wire.specs.Asks.{Plain}
 use Rattle.ra_browse.specs.Answers.{no_revision}
 use Rattle.ra_browse.proofs.Causes.{is_there}
 use Rattle.ra_browse.proofs.Exits.{tells_stop, told_there}
+use Rattle.ra_browse.proofs.Adding.{more_stopped}
 use Rattle.ra_browse.proofs.answer.proplist.Goals as goal
 
 pub returns-in-Err-clause-told : goal.returns-in-Err-clause-told
@@ -18,3 +19,6 @@ pub returns-in_ok-write_proplist-in-Ok-clause-told : goal.returns-in_ok-write_pr
 returns-in_ok-write_proplist-in-Ok-clause-told g c = λ at x e.
     told_there x at (Plain (RevProplist c.args.number)) _ _ _ (λ h. refl, refl) (is_there x c.args.number (c.in-Ok.ensures.there x e))
     (subst (λ m. Appends (g.W.Write.contents c.args.out) (g.W.Write.contents c.write_proplist.new.out) (spell (proplist m))) (c.in-Ok.ensures.props x e) c.in_ok-write_proplist-in-Ok.ensures)
+
+pub returns-in-Err-clause-adds : goal.returns-in-Err-clause-adds
+returns-in-Err-clause-adds g c = more_stopped g.W.Write.contents c.args.out c.tell.result c.stopped.result c.tell.ensures

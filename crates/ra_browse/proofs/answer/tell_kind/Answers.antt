@@ -12,6 +12,7 @@ use Rattle.ra_serve.specs.Ports.{tree_of}
 use Rattle.ra_browse.specs.Answers.{no_revision}
 use Rattle.ra_browse.proofs.Causes.{is_there}
 use Rattle.ra_browse.proofs.Exits.{tells_stop, told_there}
+use Rattle.ra_browse.proofs.Adding.{more_stopped}
 use Rattle.ra_browse.proofs.answer.tell_kind.Goals as goal
 
 pub returns-in-Err-clause-told : goal.returns-in-Err-clause-told
@@ -24,3 +25,6 @@ returns-in_ok-write_kind-in-Ok-clause-told g c = λ at p k x e.
     told_there x at (Plain (CheckPath p c.args.number)) _ _ _ (λ h. refl, refl) (is_there x (asked x c.args.number) (c.in-Ok.ensures.there x e))
     (subst (λ o. Appends (g.W.Write.contents c.args.out) (g.W.Write.contents c.write_kind.new.out) (spell (kind_is o)))
     (c.kind_at.ensures ∙ ap (λ t. option_map kind_of (finite.get t c.args.names.now)) (c.in-Ok.ensures.tree x e) ∙ ap (λ q. option_map kind_of (finite.get (tree_of x (asked x c.args.number)) q)) k) c.in_ok-write_kind-in-Ok.ensures)
+
+pub returns-in-Err-clause-adds : goal.returns-in-Err-clause-adds
+returns-in-Err-clause-adds g c = more_stopped g.W.Write.contents c.args.out c.tell.result c.stopped.result c.tell.ensures

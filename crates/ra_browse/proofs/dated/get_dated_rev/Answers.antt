@@ -5,6 +5,7 @@ use Rattle.ra_wire.specs.Replies.{number}
 use Rattle.browse_wire.specs.Asks.{DatedRev}
 use Rattle.ra_browse.specs.Answers.{dated_denied}
 use Rattle.ra_browse.proofs.Exits.{tells_stop, told_there}
+use Rattle.ra_browse.proofs.Adding.{more_stopped}
 use Rattle.ra_browse.proofs.dated.get_dated_rev.Goals as goal
 
 pub returns-in-Err-clause-told : goal.returns-in-Err-clause-told
@@ -17,3 +18,6 @@ returns-in_ok-write_latest-in-Ok-clause-told g c = λ at x e.
     let f = c.in-Ok.ensures.found x e in
     told_there x at (DatedRev c.args.date.now) _ _ _ (λ h. refl, refl) f.0
     (subst (λ n. Appends (g.W.Write.contents c.args.out) (g.W.Write.contents c.write_latest.new.out) (spell (number n))) f.1 c.in_ok-write_latest-in-Ok.ensures)
+
+pub returns-in-Err-clause-adds : goal.returns-in-Err-clause-adds
+returns-in-Err-clause-adds g c = more_stopped g.W.Write.contents c.args.out c.tell.result c.in-Err.stop c.tell.ensures

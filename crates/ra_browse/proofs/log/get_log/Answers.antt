@@ -1,6 +1,9 @@
+use Rattle.ra_item.specs.Items.{spell}
+use Rattle.browse_wire.specs.Told.{end_item}
 use Rattle.ra_log.specs.Entries.{log_as}
 use Rattle.ra_browse.specs.Tellings.{place_as}
 use Rattle.ra_browse.proofs.Logged.{tells_found, tells_stop}
+use Rattle.ra_browse.proofs.Adding.{more_logged, more_behind_last}
 use Rattle.ra_browse.proofs.log.get_log.Goals as goal
 
 pub returns-in-Ok-clause-told : goal.returns-in-Ok-clause-told
@@ -10,3 +13,9 @@ returns-in-Ok-clause-told g c =
 pub returns-in-Err-clause-told : goal.returns-in-Err-clause-told
 returns-in-Err-clause-told g c =
     tells_stop g.P.RepoPort.repository g.P.RepoPort.refusals g.W.Write.contents (place_as c.args.place.now) (log_as c.args.order.now) c.args.port.now c.seek.new.port c.args.out c.tell_behind_last.result c.in-Err.stop c.in-Err.ensures.found c.tell_behind_last.ensures
+
+pub returns-in-Ok-clause-adds : goal.returns-in-Ok-clause-adds
+returns-in-Ok-clause-adds g c = more_logged g.W.Write.contents c.args.out c.tell_sought.result (log_as c.args.order.now) c.in-Ok.sought c.tell_sought.ensures
+
+pub returns-in-Err-clause-adds : goal.returns-in-Err-clause-adds
+returns-in-Err-clause-adds g c = more_behind_last g.W.Write.contents c.args.out c.tell_behind_last.result (spell end_item) c.in-Err.stop c.tell_behind_last.ensures

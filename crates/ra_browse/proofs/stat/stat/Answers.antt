@@ -6,6 +6,8 @@ use Rattle.ra_serve.specs.Answers.{asked}
 use Rattle.ra_browse.specs.Answers.{no_revision, stat_told}
 use Rattle.ra_browse.specs.Tellings.{made_as, place_as}
 use Rattle.ra_browse.proofs.Exits.{tells_bytes, tells_stop, stat_bytes}
+use Rattle.ra_browse.proofs.Adding.{more_stopped}
+use Rattle.ra_serve.proofs.Adding.{more_by}
 use Rattle.ra_browse.proofs.stat.stat.Goals as goal
 
 pub returns-in-Ok-clause-told : goal.returns-in-Ok-clause-told
@@ -18,3 +20,9 @@ pub returns-in-Err-clause-told : goal.returns-in-Err-clause-told
 returns-in-Err-clause-told g c =
     tells_stop g.P.RepoPort.repository g.P.RepoPort.refusals g.W.Write.contents (place_as c.args.place.now) (Stat c.args.path.now c.args.number) c.args.port.now c.see.new.port c.args.out c.tell.result c.in-Err.stop
     (λ x. no_revision x (asked x c.args.number)) refl (λ x. (λ h. refl, refl)) c.tell.ensures c.in-Err.ensures.found (λ x w d. d)
+
+pub returns-in-Err-clause-adds : goal.returns-in-Err-clause-adds
+returns-in-Err-clause-adds g c = more_stopped g.W.Write.contents c.args.out c.tell.result c.in-Err.stop c.tell.ensures
+
+pub returns-in-Ok-clause-adds : goal.returns-in-Ok-clause-adds
+returns-in-Ok-clause-adds g c = more_by g.W.Write.contents c.args.out _ c.tell_stat.result c.tell_stat.ensures

@@ -1,5 +1,8 @@
+use Rattle.ra_item.specs.Items.{spell}
+use Rattle.browse_wire.specs.Told.{end_item}
 use Rattle.ra_browse.specs.Tellings.{place_as}
 use Rattle.ra_browse.proofs.FileVersions.{tells_found, tells_stop}
+use Rattle.ra_browse.proofs.Adding.{more_versions, more_behind_last}
 use Rattle.ra_browse.proofs.versions.get_file_revs.Goals as goal
 
 pub returns-in-Ok-clause-told : goal.returns-in-Ok-clause-told
@@ -9,3 +12,9 @@ returns-in-Ok-clause-told g c = λ merged.
 pub returns-in-Err-clause-told : goal.returns-in-Err-clause-told
 returns-in-Err-clause-told g c = λ merged.
     tells_stop g.P.RepoPort.repository g.P.RepoPort.refusals g.W.Write.contents (place_as c.args.place.now) c.args.path.now c.args.start c.args.end merged c.args.port.now c.seek.new.port c.args.out c.tell_behind_last.result c.in-Err.stop c.in-Err.ensures.found c.tell_behind_last.ensures
+
+pub returns-in-Ok-clause-adds : goal.returns-in-Ok-clause-adds
+returns-in-Ok-clause-adds g c = more_versions g.W.Write.contents c.args.out c.tell_sought.result c.in-Ok.sought c.tell_sought.ensures
+
+pub returns-in-Err-clause-adds : goal.returns-in-Err-clause-adds
+returns-in-Err-clause-adds g c = more_behind_last g.W.Write.contents c.args.out c.tell_behind_last.result (spell end_item) c.in-Err.stop c.tell_behind_last.ensures

@@ -1,5 +1,4 @@
-use Rattle.std.proofs.Common.{◌∙◌, refl, subst}
-use Rattle.path_history.specs.Histories.{IsTooLong}
+use Rattle.std.proofs.Common.{refl}
 use Rattle.ra_browse.proofs.FileVersions.{are_versions}
 use Rattle.ra_browse.proofs.versions.places_of.Goals as goal
 
