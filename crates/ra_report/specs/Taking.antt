@@ -4,7 +4,7 @@ use Rattle.std.specs.Option.{option_or}
 use Rattle.node_base.specs.Path.{Path}
 use Rattle.node_base.specs.Tree.{PathMap}
 use Rattle.tree_reports.specs.Reports.{content_at}
-use Rattle.browse_wire.specs.Reports.{Report, Reported, report_as, reported_as}
+use Rattle.browse_wire.specs.Reports.{Report, report_as, reported_as}
 use Rattle.browse_wire.specs.declared.report.ReportCommand.{ReportCommand}
 use Rattle.browse_wire.specs.declared.report.Reported as declared_reported
 use Rattle.browse_wire.specs.declared.url.SessionUrl.{SessionUrl}

@@ -2,6 +2,7 @@
 
 ghost use Rattle.std.specs.Prelude.{◌≡◌, true, false, IfOk};
 ghost use Rattle.uuid.specs.Text.{hyphenated_text, lower};
+ghost use Rattle.ra_serve.specs.Tellings.{Adds};
 ghost use Rattle.ra_browse.specs.Tellings.{PortStays, TellsStop};
 ghost use Rattle.ra_report.specs.Edits.{edit_told};
 ghost use Rattle.ra_report.specs.Planning.{EndsReport};
@@ -32,6 +33,7 @@ pub fn finish<P: RepoPort, W: Write + Drop>(
     out: W,
 ) -> Result<(W, bool), ServeFault>
     ensures told { EndsReport P.RepoPort W.Write port.old port.new out place.now command.now report.now result }
+    ensures adds { IfOk result (λ r. Adds W.contents out r.0) }
     ensures stays { PortStays P.RepoPort port.old port.new }
 {
     match plan_of(alloc, port, place, command, report) {
