@@ -1,5 +1,5 @@
 -- Laws of sessions.
-use Rattle.std.proofs.Common.{◌≡◌, ◌≤◌, ◌<◌, ℕ, suc, ◌+◌, Bool, true, false, List, [], ◌∷◌, ◌++◌, length, Option, Some, None, Ok, Err, refl, sym, ap, subst, ◌∙◌, append_assoc, append-nil, length-append, arith}
+use Rattle.std.proofs.Common.{◌≡◌, ◌≤◌, ◌<◌, ◌+◌, Bool, true, false, List, [], ◌∷◌, ◌++◌, length, Ok, Err, refl, sym, ap, ◌∙◌, append_assoc, append-nil, length-append, arith}
 use Rattle.std.specs.Prelude.{if◌then◌else◌}
 use Rattle.ra_item.specs.Items.{Item, spell}
 use Rattle.repo_core.specs.Repository.{Repository}
@@ -13,8 +13,8 @@ use Rattle.ra_browse.specs.Denials.{unless_denied}
 use Rattle.ra_browse.proofs.Laws.{others_stay, root_behind}
 use Rattle.ra_report.specs.Edits.{finished}
 use Rattle.ra_report.specs.Orders.{awaits_report, order_denied}
-use Rattle.ra_reader.specs.Standings.{Phase, Idle, Reporting, Spoilt, Edited, Standing, Added, standing_at, ready_at, ordered, command_told, behind_command, Said, More, AtEnd, said_in, more_said, report_told, behind_report, told_at, leads_to}
-use Rattle.ra_reader.specs.Sessions.{Turn, answer_to, stands_behind, answers, stands}
+use Rattle.ra_reader.specs.Standings.{Phase, Idle, Reporting, Spoilt, Edited, Standing, Added, standing_at, ready_at, ordered, command_told, behind_command, AtEnd, said_in, report_told, behind_report, leads_to}
+use Rattle.ra_reader.specs.Sessions.{Turn, stands_behind, answers, stands}
 use Rattle.ra_reader.proofs.Exits.{more_led}
 use Rattle.ra_reader.specs.Laws.{IsSingle, AreSingle, single_answers, Say, IsElse}
 

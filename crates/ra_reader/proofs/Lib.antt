@@ -1,3 +1,4 @@
+pub mod Adding
 pub mod Turning
 pub mod Opening
 pub mod Exits

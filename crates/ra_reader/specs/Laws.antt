@@ -9,7 +9,7 @@ use Rattle.ra_browse.specs.Answers.{answer, behind}
 use Rattle.ra_browse.specs.Laws.{IsReparent}
 use Rattle.ra_report.specs.Edits.{finished}
 use Rattle.ra_report.specs.Orders.{awaits_report}
-use Rattle.ra_reader.specs.Standings.{Standing, Reporting, Said, More, AtEnd, standing_at, ready_at, said_in}
+use Rattle.ra_reader.specs.Standings.{Standing, Reporting, More, AtEnd, standing_at, ready_at, said_in}
 use Rattle.ra_reader.specs.Sessions.{Turn, answers, stands, stands_behind}
 
 -- ---- where no report is made

@@ -10,10 +10,10 @@ use Rattle.repo_core.specs.Repository.{Repository}
 use Rattle.ra_wire.specs.Replies.{mechanisms}
 use Rattle.browse_wire.specs.Urls.{Url}
 use Rattle.ra_serve.specs.Sessions.{identity_text}
-use Rattle.ra_serve.specs.Serving.{EndsAt, any, none, goes_on_login, ends_at_login}
+use Rattle.ra_serve.specs.Serving.{EndsAt, SaysFirst, any, none, goes_on_login, ends_at_login}
 use Rattle.ra_serve.specs.declared.fault.End as declared
 use Rattle.ra_reader.specs.Standings.{ready_at}
-use Rattle.ra_reader.specs.Sessions.{Turn, AllHave, LoginHas, SessionHas, halts, answers, asked_who, session, commands_of, goes_on, ends_opening}
+use Rattle.ra_reader.specs.Sessions.{Turn, AllHave, LoginHas, SessionHas, halts, answers, asked_who, greeting, session, commands_of, goes_on, ends_opening}
 
 -- some turns were taken: their answers stand behind what the writer had, what was added to them is what the repository has, each
 -- refusal of the port's own is one that it may give, and its count of these rose by as many
@@ -33,6 +33,10 @@ BrowsesBy spelled Has asked stands over repository refusals remaining contents o
 
 abbrev pub BrowsesSession : {P R W : Type 0} {g : _} → (P → Option Repository) → (P → ℕ) → (R → Option (List ℕ)) → (W → Option (List ℕ)) → P → P → ItemStream R g → ItemStream R g → W → W → declared.End → Type 0
 BrowsesSession repository refusals remaining contents = BrowsesBy session SessionHas commands_of goes_on ends_opening repository refusals remaining contents
+
+-- whatever the port knows, behind what the writer had stands the greeting
+abbrev pub Greets : {W : Type 0} → (W → Option (List ℕ)) → W → W → Type 0
+Greets contents out now = SaysFirst (spell greeting) (contents out) (contents now)
 
 -- ---- its parts
 

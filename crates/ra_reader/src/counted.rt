@@ -1,11 +1,12 @@
 //! A session over an output whose failures are counted.
 
-ghost use Rattle.std.specs.Prelude.{◌≡◌, IfErr};
+ghost use Rattle.std.specs.Prelude.{◌≡◌, IfErr, IfOk};
 ghost use Rattle.byte_streams.specs.Causes.{Fails};
 ghost use Rattle.ra_item.specs.ItemStreams.{meanwhile};
 ghost use Rattle.ra_serve.specs.Counted.{IsToldOnlyBy};
 ghost use Rattle.ra_browse.specs.Tellings.{PortStays};
 ghost use Rattle.ra_reader.specs.Calls.{CountsReader, ServesSession};
+ghost use Rattle.ra_reader.specs.Serving.{Greets};
 
 use crate::session::browse;
 use byte_streams::{Input, Lent, Output};
@@ -22,6 +23,7 @@ pub fn browse_to<P: RepoPort, I: Input + Drop, O: Output + Drop>(
     out: O,
 ) -> Result<(O, End), Unserved<O>>
     ensures served { ServesSession P.RepoPort I.Input O.contents port.old port.new items.old items.new out result }
+    ensures greets { IfOk result (λ r. Greets O.contents out r.0) }
     ensures reader { IfErr result (λ u. u.fault ≡ ServeFault.ReadFailed
         → Fails (meanwhile I.failures I.reads items.old items.new)) }
     ensures writer { IfErr result (λ u. IsToldOnlyBy O.failures (O.failures out) u.fault u.out) }

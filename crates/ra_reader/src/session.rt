@@ -10,6 +10,8 @@ ghost use Rattle.ra_wire.specs.Replies.{done, mechanisms, only_anonymous, welcom
 ghost use Rattle.browse_wire.specs.Urls.{url_read};
 ghost use Rattle.ra_serve.specs.Answers.{refused};
 ghost use Rattle.ra_serve.specs.Serving.{EndsBy};
+ghost use Rattle.ra_serve.specs.Tellings.{Adds};
+ghost use Rattle.ra_reader.specs.Serving.{Greets};
 ghost use Rattle.ra_reader.specs.Sessions.{greeting, place_in, place_read};
 ghost use Rattle.ra_browse.specs.Tellings.{place_as, PortStays};
 ghost use Rattle.ra_browse.specs.Writing.{TellsBytes, TellsItem};
@@ -47,6 +49,7 @@ pub fn browse<P: RepoPort, I: Input + Drop, W: Write + Drop>(
     out: W,
 ) -> Result<(W, End), ServeFault>
     ensures served { ServesSession P.RepoPort I.Input W.contents port.old port.new items.old items.new out result }
+    ensures greets { IfOk result (λ r. Greets W.contents out r.0) }
     ensures reader { BlamesReader I.Input items.old items.new result }
     ensures failures { CountsReader I.Input items.old items.new }
     ensures stays { PortStays P.RepoPort port.old port.new }
@@ -174,6 +177,7 @@ fn log_in<P: RepoPort, I: Input + Drop, W: Write + Drop>(
 ) -> Result<(W, End), ServeFault>
     ensures served { ServesLogin P.RepoPort I.Input W.contents port.old port.new items.old items.new out
         (place_as place) result }
+    ensures adds { IfOk result (λ r. Adds W.contents out r.0) }
     ensures reader { BlamesReader I.Input items.old items.new result }
     ensures failures { CountsReader I.Input items.old items.new }
     ensures stays { PortStays P.RepoPort port.old port.new }
@@ -259,6 +263,7 @@ fn commands<P: RepoPort, I: Input + Drop, W: Write + Drop>(
 ) -> Result<(W, End), ServeFault>
     ensures served { ServesCommands P.RepoPort I.Input W.contents port.old port.new items.old items.new out
         (place_as place) result }
+    ensures adds { IfOk result (λ r. Adds W.contents out r.0) }
     ensures reader { BlamesReader I.Input items.old items.new result }
     ensures failures { CountsReader I.Input items.old items.new }
     ensures stays { PortStays P.RepoPort port.old port.new }
@@ -291,6 +296,7 @@ fn turn<P: RepoPort, W: Write + Drop>(
 ) -> Result<(Phase, W), ServeFault>
     ensures told { TakesItem P.RepoPort W.Write port.old port.new out (standing_as place.old phase) item
         place.new result }
+    ensures adds { IfOk result (λ r. Adds W.contents out r.1) }
     ensures stays { PortStays P.RepoPort port.old port.new }
     ensures writer { SparesReader result }
 {

@@ -8,6 +8,7 @@ ghost use Rattle.ra_wire.specs.Replies.{done, failure};
 ghost use Rattle.browse_wire.specs.Asks.{ask_as};
 ghost use Rattle.browse_wire.specs.AskReading.{ask_in};
 ghost use Rattle.browse_wire.specs.Reports.{report_as, report_in};
+ghost use Rattle.ra_serve.specs.Tellings.{Adds};
 ghost use Rattle.ra_browse.specs.declared.denial.Denial.TheVariants.{BadShape};
 ghost use Rattle.ra_browse.specs.Denials.{denied};
 ghost use Rattle.ra_browse.specs.Tellings.{place_as, PortStays};
@@ -51,6 +52,7 @@ pub fn take<P: RepoPort, W: Write + Drop>(
 ) -> Result<(Phase, W), ServeFault>
     ensures told { TakesItem P.RepoPort W.Write port.old port.new out (standing_as place.old phase) item
         place.new result }
+    ensures adds { IfOk result (λ r. Adds W.contents out r.1) }
     ensures stays { PortStays P.RepoPort port.old port.new }
 {
     match phase {
@@ -71,6 +73,7 @@ fn take_command<P: RepoPort, W: Write + Drop>(
 ) -> Result<(Phase, W), ServeFault>
     ensures told { TakesItem P.RepoPort W.Write port.old port.new out (ready_at (place_as place.old)) item
         place.new result }
+    ensures adds { IfOk result (λ r. Adds W.contents out r.1) }
     ensures stays { PortStays P.RepoPort port.old port.new }
 {
     match BrowseCommand::parse(alloc, item) {
@@ -93,6 +96,7 @@ fn follow<P: RepoPort, W: Write + Drop>(
 ) -> Result<(Phase, W), ServeFault>
     ensures told { (item : Item) → ask_in item ≡ Ok (ask_as command) → TakesItem P.RepoPort W.Write port.old port.new
         out (ready_at (place_as place.old)) item place.new result }
+    ensures adds { IfOk result (λ r. Adds W.contents out r.1) }
     ensures stays { PortStays P.RepoPort port.old port.new }
 {
     if awaits_report(&command) {
@@ -112,6 +116,7 @@ fn take_order<W: Write + Drop>(
     requires awaited { awaits_report (ask_as command) ≡ true }
     ensures told { (item : Item) → ask_in item ≡ Ok (ask_as command) → PassesItem W.Write out
         (ready_at (place_as place.now)) item place.now result }
+    ensures adds { IfOk result (λ r. Adds W.contents out r.1) }
 {
     match ordered(alloc, place, &command) {
         Ok(()) => {
@@ -137,6 +142,7 @@ fn take_report<P: RepoPort, W: Write + Drop>(
 ) -> Result<(Phase, W), ServeFault>
     ensures told { TakesItem P.RepoPort W.Write port.old port.new out (reporting_as place.now order) item
         place.now result }
+    ensures adds { IfOk result (λ r. Adds W.contents out r.1) }
     ensures stays { PortStays P.RepoPort port.old port.new }
 {
     match said_by(alloc, item) {
@@ -180,6 +186,7 @@ fn take_end<P: RepoPort, W: Write + Drop>(
 ) -> Result<(Phase, W), ServeFault>
     ensures told { (item : Item) → said_in (report_in item) ≡ AtEnd → TakesItem P.RepoPort W.Write port.old port.new out
         (reporting_as place.now order) item place.now result }
+    ensures adds { IfOk result (λ r. Adds W.contents out r.1) }
     ensures stays { PortStays P.RepoPort port.old port.new }
 {
     match finish(

@@ -10,6 +10,8 @@ use Rattle.ra_serve.specs.declared.fault.End.TheVariants as end
 use Rattle.ra_reader.proofs.Turning.{as_turn}
 use Rattle.ra_serve.proofs.Opening.{reader_told}
 use Rattle.ra_reader.proofs.Opening.{by_before, by_end, by_fault, hello_said, hello_has, refused_has, hello_goes, hello_ends, hello_asked, hello_refused, hello_over, greeted_only}
+use Rattle.ra_serve.proofs.Adding.{adds_by, adds_none, end_adds}
+use Rattle.ra_reader.proofs.Adding.{greets, greets_first}
 use Rattle.ra_reader.proofs.session.browse.Goals as goal
 
 pub returns-in-Ok-None-clause-served : goal.returns-in-Ok-None-clause-served
@@ -34,3 +36,15 @@ returns-in_ok-out-in-Err-2-clause-served g c =
     let e : Err r ≡ place_in c.in-Ok-Some.item = sym (ap placed_as c.in-Err-2.is) ∙ c.in_ok-place.ensures.told in
     by_end session SessionHas commands_of goes_on ends_opening g.P.RepoPort.repository g.P.RepoPort.refusals g.I.Input.remaining g.W.Write.contents c.args.port.now c.args.items.now c.next.new.self c.args.out c.in_ok-out-in-Err-2.out end.Opening (as_turn c.in-Ok-Some.item ∷ []) (refused_has c.in-Ok-Some.item r e) refl
     (λ x h. hello_refused c.in-Ok-Some.item r x (g.W.Write.contents c.args.out) (g.W.Write.contents c.in_ok-out.out) (g.W.Write.contents c.in_ok-out-in-Err-2.out) e c.in_ok-out.ensures.sent c.in_ok-out-in-Err-2.ensures.sent) (hello_over c.in-Ok-Some.item r e, (subst (λ o. Answers g.I.Input.remaining g.I.Input.failures g.I.Input.reads c.args.items.now c.next.new.self (Ok o)) c.in-Ok-Some.field-0-is c.in-Ok-Some.ensures.answer))
+
+pub returns-in-Ok-None-clause-greets : goal.returns-in-Ok-None-clause-greets
+returns-in-Ok-None-clause-greets g c = greets g.W.Write.contents c.args.out c.in_ok-out.out c.in_ok-out.out c.in_ok-out.ensures.sent (adds_none g.W.Write.contents c.in_ok-out.out)
+
+pub returns-in-Err-clause-greets : goal.returns-in-Err-clause-greets
+returns-in-Err-clause-greets g c = greets_first g.W.Write.contents c.args.out c.in_ok-out.out c.ended.result c.in_ok-out.ensures.sent (end_adds g.W.Write.contents c.in_ok-out.out c.in_ok-out.out c.ended.result c.in-Err.fault (adds_none g.W.Write.contents c.in_ok-out.out) c.ended.ensures.told)
+
+pub returns-in-Ok-clause-greets : goal.returns-in-Ok-clause-greets
+returns-in-Ok-clause-greets g c = greets_first g.W.Write.contents c.args.out c.in_ok-out.out c.log_in.result c.in_ok-out.ensures.sent c.log_in.ensures.adds
+
+pub returns-in_ok-out-in-Err-2-clause-greets : goal.returns-in_ok-out-in-Err-2-clause-greets
+returns-in_ok-out-in-Err-2-clause-greets g c = greets g.W.Write.contents c.args.out c.in_ok-out.out c.in_ok-out-in-Err-2.out c.in_ok-out.ensures.sent (adds_by g.W.Write.contents c.in_ok-out.out c.in_ok-out-in-Err-2.out _ c.in_ok-out-in-Err-2.ensures.sent)

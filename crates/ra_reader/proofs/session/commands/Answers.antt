@@ -5,10 +5,11 @@ use Rattle.ra_browse.specs.Tellings.{place_as}
 use Rattle.ra_serve.proofs.Causes.{stays_here, stays_join}
 use Rattle.ra_serve.proofs.Opening.{by_ended, fault_alone, reader_told, reader_later}
 use Rattle.ra_reader.proofs.Turning.{going_start, going_more, commands_end, commands_stop}
+use Rattle.ra_serve.proofs.Adding.{adds_none, adds_then, end_adds}
 use Rattle.ra_reader.proofs.session.commands.Goals as goal
 
 pub loop-init : goal.loop-init
-loop-init g c = ((λ x e. going_start x _ _ _ _ _), stays_here _ _ _, λ s. s, omega arith)
+loop-init g c = ((λ x e. going_start x _ _ _ _ _), stays_here _ _ _, λ s. s, omega arith, adds_none g.W.Write.contents c.args.out)
 
 pub returns-in-Ok-None-clause-served : goal.returns-in-Ok-None-clause-served
 returns-in-Ok-None-clause-served g c = λ x e. commands_end x _ _ _ _ _ _ _ _ _ _ _ _ _ (c.loop.invariant.0 x e) (subst (λ o. Answers g.I.Input.remaining g.I.Input.failures g.I.Input.reads c.loop.items c.next.new.self (Ok o)) c.in-Ok-None.field-0-is c.in-Ok-None.ensures.answer)
@@ -31,4 +32,8 @@ loop-preserved g c =
       stays_join _ _ _ _ _ _ _ _ _ i.1 c.turn.ensures.stays,
       (λ s. absurd (true≢false (sym s ∙ c.in-Ok-Some.ensures.goes_on))),
       omega (arith, i.3, c.next.ensures.failures),
+      adds_then g.W.Write.contents c.args.out c.loop.sent c.in_ok-next-in-Ok-Some.told i.4 c.in_ok-next-in-Ok-Some.ensures.adds,
     )
+
+pub returns-in-Err-clause-adds : goal.returns-in-Err-clause-adds
+returns-in-Err-clause-adds g c = end_adds g.W.Write.contents c.args.out c.loop.sent c.ended.result c.in-Err.fault c.loop.invariant.4 c.ended.ensures.told

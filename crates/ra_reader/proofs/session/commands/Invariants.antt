@@ -1,6 +1,7 @@
 use Rattle.std.proofs.Common.{◌≡◌, ◌≤◌, true, Some}
 use Rattle.repo_core.specs.Repository.{Repository}
 use Rattle.ra_item.specs.ItemStreams.{reader_of, is_spent, ahead}
+use Rattle.ra_serve.specs.Tellings.{Adds}
 use Rattle.ra_browse.specs.Tellings.{place_as, PortStays}
 use Rattle.ra_reader.specs.Standings.{ready_at}
 use Rattle.ra_reader.specs.Takings.{standing_as}
@@ -13,3 +14,4 @@ invariant-loop g l =
     × PortStays g.P.RepoPort l.fn.port l.port
     × (is_spent l.items ≡ true → is_spent l.fn.items ≡ true)
     × (g.I.Input.failures (reader_of l.fn.items) ≤ g.I.Input.failures (reader_of l.items))
+    × Adds g.W.Write.contents l.fn.out l.sent

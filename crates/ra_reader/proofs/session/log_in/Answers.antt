@@ -15,6 +15,7 @@ use Rattle.ra_reader.proofs.Turning.{as_turn}
 use Rattle.ra_serve.proofs.Opening.{reader_told}
 use Rattle.ra_browse.specs.Tellings.{place_as}
 use Rattle.ra_reader.proofs.Opening.{by_before, by_end, by_fault, login_said, login_goes, login_bytes, asked_only, other_bytes, none_bytes, other_over, none_over}
+use Rattle.ra_serve.proofs.Adding.{adds_by, adds_more, end_adds, rest_adds}
 use Rattle.ra_reader.proofs.session.log_in.Goals as goal
 
 pub returns-in-Ok-None-clause-served : goal.returns-in-Ok-None-clause-served
@@ -51,3 +52,21 @@ returns-in_ok-out-in-None-clause-served g c =
     let e : None ≡ option_map is_anonymous (login_in c.in-Ok-Some.item) = cc in
     by_end (spelled_login (place_as c.args.place)) (LoginHas (place_as c.args.place)) behind_one goes_on_login ends_at_login g.P.RepoPort.repository g.P.RepoPort.refusals g.I.Input.remaining g.W.Write.contents c.args.port.now c.args.items.now c.next.new.self c.args.out c.in_ok-out-in-None.out end.Opening (as_turn c.in-Ok-Some.item ∷ []) (λ x. tt) refl
     (λ x h. none_bytes (place_as c.args.place) c.in-Ok-Some.item x c.identity-identity.result (g.W.Write.contents c.args.out) (g.W.Write.contents c.in_ok-out.out) (g.W.Write.contents c.in_ok-out-in-None.out) e (c.identity-identity.ensures x h) c.in_ok-out.ensures.sent c.in_ok-out-in-None.ensures.sent) (none_over c.in-Ok-Some.item e, (subst (λ o. Answers g.I.Input.remaining g.I.Input.failures g.I.Input.reads c.args.items.now c.next.new.self (Ok o)) c.in-Ok-Some.field-0-is c.in-Ok-Some.ensures.answer))
+
+pub returns-in-Ok-None-clause-adds : goal.returns-in-Ok-None-clause-adds
+returns-in-Ok-None-clause-adds g c = adds_by g.W.Write.contents c.args.out c.in_ok-out.out _ c.in_ok-out.ensures.sent
+
+pub returns-in-Err-clause-adds : goal.returns-in-Err-clause-adds
+returns-in-Err-clause-adds g c = end_adds g.W.Write.contents c.args.out c.in_ok-out.out c.ended.result c.in-Err.fault (adds_by g.W.Write.contents c.args.out c.in_ok-out.out _ c.in_ok-out.ensures.sent) c.ended.ensures.told
+
+pub returns-in_ok-out-in-Some-true-clause-adds : goal.returns-in_ok-out-in-Some-true-clause-adds
+returns-in_ok-out-in-Some-true-clause-adds g c =
+    rest_adds g.W.Write.contents c.args.out c.in_ok-out-in-Some-true.out c.commands.result
+    (adds_more g.W.Write.contents c.args.out c.in_ok-out.out c.in_ok-out-in-Some-true.out _ (adds_by g.W.Write.contents c.args.out c.in_ok-out.out _ c.in_ok-out.ensures.sent) c.in_ok-out-in-Some-true.ensures.sent)
+    c.commands.ensures.adds
+
+pub returns-in_ok-out-in-Some-false-clause-adds : goal.returns-in_ok-out-in-Some-false-clause-adds
+returns-in_ok-out-in-Some-false-clause-adds g c = adds_more g.W.Write.contents c.args.out c.in_ok-out.out c.in_ok-out-in-Some-false.out _ (adds_by g.W.Write.contents c.args.out c.in_ok-out.out _ c.in_ok-out.ensures.sent) c.in_ok-out-in-Some-false.ensures.sent
+
+pub returns-in_ok-out-in-None-clause-adds : goal.returns-in_ok-out-in-None-clause-adds
+returns-in_ok-out-in-None-clause-adds g c = adds_more g.W.Write.contents c.args.out c.in_ok-out.out c.in_ok-out-in-None.out _ (adds_by g.W.Write.contents c.args.out c.in_ok-out.out _ c.in_ok-out.ensures.sent) c.in_ok-out-in-None.ensures.sent

@@ -6,6 +6,7 @@ use Rattle.ra_browse.specs.Tellings.{place_as}
 use Rattle.ra_reader.specs.Standings.{ready_at, standing_at, Spoilt, said_in}
 use Rattle.ra_reader.specs.Takings.{reporting_as, standing_as, phase_as, said_as}
 use Rattle.ra_reader.proofs.Exits.{passes, by_more, by_given_up, by_spoiling}
+use Rattle.ra_serve.proofs.Adding.{adds_by, adds_none}
 use Rattle.ra_reader.proofs.take.take_report.Goals as goal
 
 pub returns-in_ok-phase-in-Ok-More-clause-told : goal.returns-in_ok-phase-in-Ok-More-clause-told
@@ -27,3 +28,12 @@ pub returns-in-Ok-Spoils-clause-told : goal.returns-in-Ok-Spoils-clause-told
 returns-in-Ok-Spoils-clause-told g c =
     passes g.P.RepoPort.repository g.P.RepoPort.refusals g.W.Write.contents (reporting_as c.args.place.now c.args.order) (standing_at (place_as c.args.place.now) (Spoilt c.in-Ok-Spoils.why)) c.args.item c.args.port.now c.args.port.now c.args.out c.args.out
     (by_spoiling g.W.Write.contents (place_as c.args.place.now) (ask_as c.args.order.command) (map report_as c.args.order.said.items) c.in-Ok-Spoils.why c.args.item c.args.out (sym (subst (λ s. said_as s ≡ said_in (report_in c.args.item)) c.in-Ok-Spoils.field-0-is c.in-Ok-Spoils.ensures.told)))
+
+pub returns-in_ok-phase-in-Ok-More-clause-adds : goal.returns-in_ok-phase-in-Ok-More-clause-adds
+returns-in_ok-phase-in-Ok-More-clause-adds g c = adds_none g.W.Write.contents c.args.out
+
+pub returns-in_ok-out-in-Ok-GivenUp-clause-adds : goal.returns-in_ok-out-in-Ok-GivenUp-clause-adds
+returns-in_ok-out-in-Ok-GivenUp-clause-adds g c = adds_by g.W.Write.contents c.args.out c.in_ok-out-in-Ok-GivenUp.out _ c.in_ok-out-in-Ok-GivenUp.ensures
+
+pub returns-in-Ok-Spoils-clause-adds : goal.returns-in-Ok-Spoils-clause-adds
+returns-in-Ok-Spoils-clause-adds g c = adds_none g.W.Write.contents c.args.out
