@@ -2,7 +2,7 @@
 use Rattle.std.specs.Prelude.{ℕ, Bool, true, false, List, ◌++◌, codes, Option, Some, None, Result, Ok, Err}
 use Rattle.std.specs.Fmt.{decimal}
 use Rattle.std.specs.Option.{option_map_or}
-use Rattle.ra_item.specs.Items.{spell}
+use Rattle.ra_item.specs.Items.{Item, spell}
 use Rattle.ra_wire.specs.Replies.{greeting}
 use Rattle.ra_serve.specs.Serving.{SaysFirst}
 use Rattle.ra_serve.specs.declared.fault.End.{End}
@@ -11,6 +11,7 @@ use Rattle.ra_serve.specs.declared.fault.ServeFault.{ServeFault}
 use Rattle.ra_serve.specs.declared.fault.ServeFault.TheVariants.{ReadFailed, WriteFailed, OutOfMemory}
 use Rattle.ra_serve.specs.declared.fault.PortFault.{PortFault}
 use Rattle.ra_serve.specs.declared.fault.PortFault.TheVariants as port
+use Rattle.ra_reader.specs.Sessions as reader
 use Rattle.sockets.specs.declared.fault.SocketFault.{SocketFault}
 use Rattle.sockets.specs.declared.fault.SocketFault.TheVariants as socket
 use Rattle.sockets.specs.declared.troubles.Trouble.{Trouble}
@@ -29,10 +30,14 @@ fault_of ReadFailed = socket.PeerFailed
 fault_of WriteFailed = socket.PeerFailed
 fault_of OutOfMemory = socket.OutOfMemory
 
--- a client is told the greeting first; of one that may browse that isn't said
+-- the greeting of a server of which clients may browse, or of another
+abbrev pub greeting_of : Bool → Item
+greeting_of true = reader.greeting
+greeting_of false = greeting
+
+-- a client is told the greeting first
 abbrev pub BeginsWell : Bool → Option (List ℕ) → Option (List ℕ) → Type 0
-BeginsWell true before behind = Unit {0}
-BeginsWell false before behind = SaysFirst (spell greeting) before behind
+BeginsWell browse before behind = SaysFirst (spell (greeting_of browse)) before behind
 
 -- the root that is served on a port
 abbrev pub url : ℕ → List ℕ

@@ -1,6 +1,6 @@
 //! What goes over a connection.
 
-ghost use Rattle.std.specs.Prelude.{◌≡◌, IfOk, string_bytes};
+ghost use Rattle.std.specs.Prelude.{◌≡◌, true, IfOk, string_bytes};
 ghost use Rattle.svn_ends.specs.Ports.{takes_none};
 ghost use Rattle.svn_ends.specs.Ends.{fault_of, heard, root_of, trouble_of, url, BeginsWell};
 
@@ -68,7 +68,9 @@ impl<'a, R: Wait + Clock, L: RowName, S: ServedShare<L>, T: Teller> ShareSession
         port: &mut SharePort<'a, R, L, S>,
         input: I,
         output: W,
-    ) -> Result<(W, End), ServeFault> {
+    ) -> Result<(W, End), ServeFault>
+        ensures { IfOk result (λ r. BeginsWell true (W.contents output) (W.contents r.0)) }
+    {
         let mut items = ItemStream::new(self.alloc, CountedReader::new(input));
         let out = CountedWriter::new(output);
         match browse_to(self.alloc, port, &mut items, out) {
