@@ -10,7 +10,7 @@ use Rattle.mirror_share.specs.declared.share.MirrorShare.{MirrorShare}
 use Rattle.store_share.specs.declared.share.MasterShare.{MasterShare}
 use Rattle.fleet_shares.specs.Answers.{AnswersOn}
 use Rattle.fleet_shares.specs.Given.{IsAnswerAt, IsAnswered}
-use Rattle.fleet_shares.specs.Opening.{HasStores}
+use Rattle.fleet_shares.specs.Opening.{HasClosed, HasShares, HasStoresOf}
 use Rattle.fleet_shares.specs.Ran.{HasEndedAt, IsAnswerIn}
 use Rattle.fleet_shares.specs.Runners.{at_slot, has_at, shares_of, MayAnswer}
 use Rattle.fleet_shares.specs.declared.runner.SharesRunner.{SharesRunner}
@@ -54,8 +54,7 @@ module _ {M L0 L1 L2 L3 D : Type 0} {m : _} {r0 : _} {r1 : _} {r2 : _} {r3 : _} 
   all_answered_in p e0 e1 e2 e3 os as' h = all_so _ _ (answered_in p e0 e1 e2 e3) os as' h
 
   -- the same of an answer, over shares that were made of these stores
-  pub shared_in : {E : Type 0} (t : FleetShares M L0 L1 L2 L3 D m r0 r1 r2 r3 g) (p : OpenedFleet D g) → s ≡ t
-      → (is_some t.first ≡ is_some p.first) × (is_some t.second ≡ is_some p.second) × (is_some t.third ≡ is_some p.third) × (is_some t.fourth ≡ is_some p.fourth)
+  pub shared_in : {E : Type 0} (t : FleetShares M L0 L1 L2 L3 D m r0 r1 r2 r3 g) (p : OpenedFleet D g) → s ≡ t → HasShares p t
       → (os : List Order) (r : Result (Vec Answer Global) E) → IfOk r (λ xs. AllZip (MayAnswer s) os xs.items) → IfOk r (λ xs. AllZip (IsAnswerIn m r0 r1 r2 r3 p) os xs.items)
   shared_in t p e slots os (Ok xs) h =
       all_answered_in p
@@ -67,10 +66,7 @@ module _ {M L0 L1 L2 L3 D : Type 0} {m : _} {r0 : _} {r1 : _} {r2 : _} {r3 : _} 
   shared_in t p e slots os (Err f) h = tt
 
   -- and the stores of such shares are in the slots of those
-  pub closed_in : (t : FleetShares M L0 L1 L2 L3 D m r0 r1 r2 r3 g) (p : OpenedFleet D g) (stores : FleetStores D g) → s ≡ t
-      → (is_some t.first ≡ is_some p.first) × (is_some t.second ≡ is_some p.second) × (is_some t.third ≡ is_some p.third) × (is_some t.fourth ≡ is_some p.fourth)
-      → (is_some stores.first ≡ is_some s.first) × (is_some stores.second ≡ is_some s.second) × (is_some stores.third ≡ is_some s.third) × (is_some stores.fourth ≡ is_some s.fourth)
-      → HasStores (is_some p.first) (is_some p.second) (is_some p.third) (is_some p.fourth) stores
+  pub closed_in : (t : FleetShares M L0 L1 L2 L3 D m r0 r1 r2 r3 g) (p : OpenedFleet D g) (stores : FleetStores D g) → s ≡ t → HasShares p t → HasClosed s stores → HasStoresOf p stores
   closed_in t p stores e slots back = (
     back.0 ∙ (ap (λ (x : FleetShares M L0 L1 L2 L3 D m r0 r1 r2 r3 g). is_some x.first) e ∙ slots.0),
     back.1 ∙ (ap (λ (x : FleetShares M L0 L1 L2 L3 D m r0 r1 r2 r3 g). is_some x.second) e ∙ slots.1),

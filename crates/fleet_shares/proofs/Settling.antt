@@ -16,13 +16,15 @@ use Rattle.store_share.specs.declared.name.RowName.{Ghosts as RowGhosts}
 use Rattle.store_share.specs.declared.opened.OpenedStore.{OpenedStore}
 use Rattle.store_share.specs.declared.seat.ReaderSeat.{ReaderSeat}
 use Rattle.fleet_shares.specs.Agreed.{Adds, BringsUp, IsAddedTo, IsFront, IsOther}
-use Rattle.fleet_shares.specs.Closing.{brings_at, ComesOut, ComesOutNow, HasStayed, IsBroughtBy, IsBroughtIn, IsBroughtSince, IsJudged, IsLost, IsReadBy, IsSettled, IsUnlike}
+use Rattle.fleet_shares.specs.Closing.{brings_at, AreBroughtIn, AreBroughtSince, AreReaders, ComesOut, ComesOutNow, HasStayed, HaveSeenAll, IsBroughtBy, IsBroughtIn, IsBroughtSince, IsJudged, IsLost, IsReadBy, IsSettled, IsUnlike}
 use Rattle.fleet_shares.specs.Opening.{stored_in, IsOpenedFrom}
 use Rattle.fleet_shares.specs.Ran.{named_by}
 use Rattle.fleet_shares.specs.Stores.{store_at}
 use Rattle.fleet_shares.specs.declared.brings.Brings.{Brings}
+use Rattle.fleet_shares.specs.declared.shares.FleetReaders.{FleetReaders}
 use Rattle.fleet_shares.specs.declared.stores.FleetStores.{FleetStores}
 use Rattle.fleet_shares.specs.declared.stores.OpenedFleet.{OpenedFleet}
+use Rattle.fleet_shares.proofs.Telling.{of_ok}
 
 -- the newest revision of a book of which each cell took its box
 pub newest_of : {L D : Type 0} {r : _} {g : _} (book : MasterBook L D r g) (y : Repository) (n : ℕ) → y ≡ repository_of (store_of book) → n ≡ head_of y.revisions → 0 < length y.revisions → books.head_of book + 1 ≡ length (revisions_of (store_of book))
@@ -98,7 +100,7 @@ brought_after {D = D} {g = g} stays up both theirs ours first mid master store i
     brought_since stays up both theirs ours first master store is same h (subst (λ (x : RepoStore D g). IsSettled up store ours (repository_of x)) at k)
 
 -- by how it was opened
-pub brought_in : {M L D : Type 0} {m : _} {r : _} {g : _} (up : Bool) (theirs : ReaderSeat M m) (ours : Option (ReaderSeat L r)) (first : OpenedStore D g) (opened : Option (OpenedMirror D g)) (master : RepoStore D g) (store : Option (RepoStore D g))
+brought_in : {M L D : Type 0} {m : _} {r : _} {g : _} (up : Bool) (theirs : ReaderSeat M m) (ours : Option (ReaderSeat L r)) (first : OpenedStore D g) (opened : Option (OpenedMirror D g)) (master : RepoStore D g) (store : Option (RepoStore D g))
     → HasSeenAll theirs (repository_of (store_in first)) → IsReadBy opened ours → IsBroughtSince up theirs ours master store → IsBroughtIn m r up first opened master store
 brought_in up theirs ours first None master store h k b = tt
 brought_in up theirs ours first (Some o) master None h k b = tt
@@ -107,10 +109,28 @@ brought_in true theirs (Some seat) first (Some o) master (Some s) h k b = b (rep
 brought_in {m = m} {r = r} false theirs (Some seat) first (Some o) master (Some s) h k b =
     subst (λ n. IsUnlike m r n (head_of (revisions_of (store_in (opened_in o)))) master s) h.0 (subst (λ n. IsUnlike m r (seen_by theirs) n master s) k.0 b)
 
--- what is so of one of several results, where all of them came
-pub of_all : {A B E : Type 0} (all : Result A E) (one : Result B E) (part : A → B) (P : B → Type 0) → IfOk all (λ r. one ≡ Ok (part r)) → IfOk one P → IfOk all (λ r. P (part r))
-of_all {B = B} {E = E} (Ok r) one part P is h = subst (λ (x : Result B E). IfOk x P) is h
-of_all (Err e) one part P is h = tt
+module _ {M L0 L1 L2 L3 D : Type 0} {m : _} {r0 : _} {r1 : _} {r2 : _} {r3 : _} {g : _} (opened : OpenedFleet D g) where
+  -- of all slots
+  pub all_brought : (readers : FleetReaders M L0 L1 L2 L3 m r0 r1 r2 r3) (stores : FleetStores D g) (brings : Brings) → HaveSeenAll opened readers → AreBroughtSince brings readers stores → AreBroughtIn m r0 r1 r2 r3 opened stores brings
+  all_brought readers stores brings h b = record {
+    first = brought_in brings.first readers.master readers.first opened.master opened.first stores.master stores.first h.master h.first b.first;
+    second = brought_in brings.second readers.master readers.second opened.master opened.second stores.master stores.second h.master h.second b.second;
+    third = brought_in brings.third readers.master readers.third opened.master opened.third stores.master stores.third h.master h.third b.third;
+    fourth = brought_in brings.fourth readers.master readers.fourth opened.master opened.fourth stores.master stores.fourth h.master h.fourth b.fourth;
+  }
+
+  -- the readers have seen all, where each of them has
+  pub all_seen : {E : Type 0} (all : Result (FleetReaders M L0 L1 L2 L3 m r0 r1 r2 r3) E) (t : Result (ReaderSeat M m) E) (a : Result (Option (ReaderSeat L0 r0)) E) (b : Result (Option (ReaderSeat L1 r1)) E) (c : Result (Option (ReaderSeat L2 r2)) E) (d : Result (Option (ReaderSeat L3 r3)) E)
+      → IfOk all (AreReaders t a b c d) → IfOk t (λ s. HasSeenAll s (repository_of (store_in opened.master))) → IfOk a (IsReadBy opened.first) → IfOk b (IsReadBy opened.second) → IfOk c (IsReadBy opened.third) → IfOk d (IsReadBy opened.fourth)
+      → IfOk all (HaveSeenAll opened)
+  all_seen (Ok r) t a b c d are h i j k l = record {
+    master = of_ok t r.master (λ s. HasSeenAll s (repository_of (store_in opened.master))) are.master_is h;
+    first = of_ok a r.first (IsReadBy opened.first) are.first_is i;
+    second = of_ok b r.second (IsReadBy opened.second) are.second_is j;
+    third = of_ok c r.third (IsReadBy opened.third) are.third_is k;
+    fourth = of_ok d r.fourth (IsReadBy opened.fourth) are.fourth_is l;
+  }
+  all_seen (Err e) t a b c d are h i j k l = tt
 
 -- by the stores that were given
 came_out : {M L D : Type 0} {g : _} (m : RowGhosts M) (r : RowGhosts L) (up : Bool) (first : OpenedStore D g) (opened : Option (OpenedMirror D g)) (given master : RepoStore D g) (slot now : Option (RepoStore D g)) → store_in first ≡ given → stored_in (Ok opened) ≡ slot
@@ -141,18 +161,13 @@ module _ {D : Type 0} {g : _} (m r0 r1 r2 r3 : List ℕ) (stores new : FleetStor
   no_slot : (before : RepoStore D g) (P : Type 0) → None ≡ Some before → P
   no_slot before P e = absurd (cc)
 
-  brought_slots : (b : Brings) → IsBroughtIn (named_by m) (named_by r0) b.first opened.master opened.first new.master new.first → IsBroughtIn (named_by m) (named_by r1) b.second opened.master opened.second new.master new.second
-      → IsBroughtIn (named_by m) (named_by r2) b.third opened.master opened.third new.master new.third → IsBroughtIn (named_by m) (named_by r3) b.fourth opened.master opened.fourth new.master new.fourth
-      → (slot : ℕ) → IsJudged stores new slot (brings_at b slot)
-  brought_slots b h k i j zero = judged r0 b.first 0 (came_out (named_by m) (named_by r0) b.first opened.master opened.first stores.master new.master stores.first new.first from.0 from.1 h)
-  brought_slots b h k i j (suc zero) = judged r1 b.second 1 (came_out (named_by m) (named_by r1) b.second opened.master opened.second stores.master new.master stores.second new.second from.0 from.2 k)
-  brought_slots b h k i j (suc (suc zero)) = judged r2 b.third 2 (came_out (named_by m) (named_by r2) b.third opened.master opened.third stores.master new.master stores.third new.third from.0 from.3 i)
-  brought_slots b h k i j (suc (suc (suc zero))) = judged r3 b.fourth 3 (came_out (named_by m) (named_by r3) b.fourth opened.master opened.fourth stores.master new.master stores.fourth new.fourth from.0 from.4 j)
-  brought_slots b h k i j (suc (suc (suc (suc n)))) = λ before after was there. no_slot before _ was
+  brought_slots : (b : Brings) → AreBroughtIn (named_by m) (named_by r0) (named_by r1) (named_by r2) (named_by r3) opened new b → (slot : ℕ) → IsJudged stores new slot (brings_at b slot)
+  brought_slots b h zero = judged r0 b.first 0 (came_out (named_by m) (named_by r0) b.first opened.master opened.first stores.master new.master stores.first new.first from.0 from.1 h.first)
+  brought_slots b h (suc zero) = judged r1 b.second 1 (came_out (named_by m) (named_by r1) b.second opened.master opened.second stores.master new.master stores.second new.second from.0 from.2 h.second)
+  brought_slots b h (suc (suc zero)) = judged r2 b.third 2 (came_out (named_by m) (named_by r2) b.third opened.master opened.third stores.master new.master stores.third new.third from.0 from.3 h.third)
+  brought_slots b h (suc (suc (suc zero))) = judged r3 b.fourth 3 (came_out (named_by m) (named_by r3) b.fourth opened.master opened.fourth stores.master new.master stores.fourth new.fourth from.0 from.4 h.fourth)
+  brought_slots b h (suc (suc (suc (suc n)))) = λ before after was there. no_slot before _ was
 
-  pub brought_over : {T E : Type 0} (r : Result (T × Brings) E) → IfOk r (λ ran. IsBroughtIn (named_by m) (named_by r0) ran.1.first opened.master opened.first new.master new.first)
-      → IfOk r (λ ran. IsBroughtIn (named_by m) (named_by r1) ran.1.second opened.master opened.second new.master new.second)
-      → IfOk r (λ ran. IsBroughtIn (named_by m) (named_by r2) ran.1.third opened.master opened.third new.master new.third)
-      → IfOk r (λ ran. IsBroughtIn (named_by m) (named_by r3) ran.1.fourth opened.master opened.fourth new.master new.fourth) → IfOk r (λ ran. (slot : ℕ) → IsJudged stores new slot (brings_at ran.1 slot))
-  brought_over (Ok ran) h k i j = brought_slots ran.1 h k i j
-  brought_over (Err e) h k i j = tt
+  pub brought_over : {T E : Type 0} (r : Result (T × Brings) E) → IfOk r (λ ran. AreBroughtIn (named_by m) (named_by r0) (named_by r1) (named_by r2) (named_by r3) opened new ran.1) → IfOk r (λ ran. (slot : ℕ) → IsJudged stores new slot (brings_at ran.1 slot))
+  brought_over (Ok ran) h = brought_slots ran.1 h
+  brought_over (Err e) h = tt

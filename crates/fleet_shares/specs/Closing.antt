@@ -1,5 +1,6 @@
 -- What comes of a fleet's stores.
-use Rattle.std.specs.Prelude.{◌≡◌, ◌⊎◌, ◌<◌, ℕ, Bool, true, false, List, Option, Some, None}
+use Rattle.std.specs.Prelude.{◌≡◌, ◌⊎◌, ◌<◌, ℕ, Bool, true, false, List, Option, Some, None, Result, Ok}
+use Rattle.fleet_disk.specs.declared.disk.Disk.{Ghosts}
 use Rattle.mirror_share.specs.Names.{opened_in}
 use Rattle.mirror_share.specs.Seen.{HasSeenAll}
 use Rattle.mirror_share.specs.declared.opened.OpenedMirror.{OpenedMirror}
@@ -18,7 +19,9 @@ use Rattle.fleet_shares.specs.Ran.{named_by}
 use Rattle.fleet_shares.specs.Runners.{has_at}
 use Rattle.fleet_shares.specs.Stores.{store_at}
 use Rattle.fleet_shares.specs.declared.brings.Brings.{Brings}
+use Rattle.fleet_shares.specs.declared.shares.FleetReaders.{FleetReaders}
 use Rattle.fleet_shares.specs.declared.stores.FleetStores.{FleetStores}
+use Rattle.fleet_shares.specs.declared.stores.OpenedFleet.{OpenedFleet}
 
 -- a store's revisions aren't all shown, since a cell of its row refused its box; or it has fewer than so many
 abbrev pub IsLost : {L D : Type 0} {g : _} → RowGhosts L → ℕ → RepoStore D g → Type 0
@@ -52,11 +55,34 @@ IsBroughtSince up t None master (Some s) = up ≡ true → ⊥
 IsBroughtSince true t (Some o) master (Some s) = (m x : Repository) → HasSeenAll t m → HasSeenAll o x → BringsUp m x (repository_of master) (repository_of s)
 IsBroughtSince {m = m} {r = r} false t (Some o) master (Some s) = IsUnlike m r (seen_by t) (seen_by o) master s
 
+-- so it is of the mirror of each slot
+pub record AreBroughtSince {M L0 L1 L2 L3 D : Type 0} {m : _} {r0 : _} {r1 : _} {r2 : _} {r3 : _} {g : Ghosts D} (brings : Brings) (readers : FleetReaders M L0 L1 L2 L3 m r0 r1 r2 r3) (stores : FleetStores D g) : Type 0 where
+  pub first : IsBroughtSince brings.first readers.master readers.first stores.master stores.first
+  pub second : IsBroughtSince brings.second readers.master readers.second stores.master stores.second
+  pub third : IsBroughtSince brings.third readers.master readers.third stores.master stores.third
+  pub fourth : IsBroughtSince brings.fourth readers.master readers.fourth stores.master stores.fourth
+
 -- the reader of an opened mirror has seen all of it
 abbrev pub IsReadBy : {L D : Type 0} {r : _} {g : _} → Option (OpenedMirror D g) → Option (ReaderSeat L r) → Type 0
 IsReadBy None reader = Unit {0}
 IsReadBy (Some o) None = ⊥
 IsReadBy (Some o) (Some seat) = HasSeenAll seat (repository_of (store_in (opened_in o)))
+
+-- these are the seats of all readers, each of which there was memory for
+pub record AreReaders {M L0 L1 L2 L3 E : Type 0} {m : _} {r0 : _} {r1 : _} {r2 : _} {r3 : _} (master : Result (ReaderSeat M m) E) (first : Result (Option (ReaderSeat L0 r0)) E) (second : Result (Option (ReaderSeat L1 r1)) E) (third : Result (Option (ReaderSeat L2 r2)) E) (fourth : Result (Option (ReaderSeat L3 r3)) E) (readers : FleetReaders M L0 L1 L2 L3 m r0 r1 r2 r3) : Type 0 where
+  pub master_is : master ≡ Ok readers.master
+  pub first_is : first ≡ Ok readers.first
+  pub second_is : second ≡ Ok readers.second
+  pub third_is : third ≡ Ok readers.third
+  pub fourth_is : fourth ≡ Ok readers.fourth
+
+-- they have seen all that was opened
+pub record HaveSeenAll {M L0 L1 L2 L3 D : Type 0} {m : _} {r0 : _} {r1 : _} {r2 : _} {r3 : _} {g : Ghosts D} (opened : OpenedFleet D g) (readers : FleetReaders M L0 L1 L2 L3 m r0 r1 r2 r3) : Type 0 where
+  pub master : HasSeenAll readers.master (repository_of (store_in opened.master))
+  pub first : IsReadBy opened.first readers.first
+  pub second : IsReadBy opened.second readers.second
+  pub third : IsReadBy opened.third readers.third
+  pub fourth : IsReadBy opened.fourth readers.fourth
 
 -- whether a mirror was brought up to its master, by how both were and how they are
 abbrev pub ComesOut : {M L D : Type 0} {g : _} → RowGhosts M → RowGhosts L → Bool → RepoStore D g → RepoStore D g → RepoStore D g → RepoStore D g → Type 0
@@ -68,6 +94,13 @@ abbrev pub IsBroughtIn : {M L D : Type 0} {g : _} → RowGhosts M → RowGhosts 
 IsBroughtIn m r up first None master store = Unit {0}
 IsBroughtIn m r up first (Some o) master None = Unit {0}
 IsBroughtIn m r up first (Some o) master (Some s) = ComesOut m r up (store_in first) (store_in (opened_in o)) master s
+
+-- and of all slots
+pub record AreBroughtIn {M L0 L1 L2 L3 D : Type 0} {g : Ghosts D} (m : RowGhosts M) (r0 : RowGhosts L0) (r1 : RowGhosts L1) (r2 : RowGhosts L2) (r3 : RowGhosts L3) (opened : OpenedFleet D g) (stores : FleetStores D g) (brings : Brings) : Type 0 where
+  pub first : IsBroughtIn m r0 brings.first opened.master opened.first stores.master stores.first
+  pub second : IsBroughtIn m r1 brings.second opened.master opened.second stores.master stores.second
+  pub third : IsBroughtIn m r2 brings.third opened.master opened.third stores.master stores.third
+  pub fourth : IsBroughtIn m r3 brings.fourth opened.master opened.fourth stores.master stores.fourth
 
 -- whether the mirror of a slot was
 abbrev pub brings_at : Brings → ℕ → Bool

@@ -1,11 +1,11 @@
 //! Mirrors that are brought up to a master at once.
-ghost use Rattle.std.specs.Prelude.{◌≡◌, ℕ, IfErr, IfOk, IfSome, Ok, is_some};
+ghost use Rattle.std.specs.Prelude.{◌≡◌, ℕ, IfErr, IfOk, IfSome, Ok};
 ghost use Rattle.std.specs.Arc.{arc_value};
 ghost use Rattle.std.specs.List.{AllZip};
 ghost use Rattle.mirror_share.specs.Names.{IsNamed};
 ghost use Rattle.store_share.specs.Opened.{cells_of};
-ghost use Rattle.fleet_shares.specs.Closing.{brings_at, IsBroughtIn, IsJudged};
-ghost use Rattle.fleet_shares.specs.Opening.{HasStores};
+ghost use Rattle.fleet_shares.specs.Closing.{brings_at, AreBroughtIn, IsJudged};
+ghost use Rattle.fleet_shares.specs.Opening.{HasStoresOf};
 ghost use Rattle.fleet_shares.specs.Ran.{IsAnswerIn};
 ghost use Rattle.fleet_shares.specs.Told.{stands, AreTold, IsAnswerOver, SameSlots};
 
@@ -122,18 +122,11 @@ fn run_opened<
     requires second { IfSome opened.second (λ o. IsNamed o L1.cells L1.merged L1.copying L1.head L1.holder) }
     requires third { IfSome opened.third (λ o. IsNamed o L2.cells L2.merged L2.copying L2.head L2.holder) }
     requires fourth { IfSome opened.fourth (λ o. IsNamed o L3.cells L3.merged L3.copying L3.head L3.holder) }
-    ensures slots { HasStores (is_some opened.first) (is_some opened.second) (is_some opened.third)
-        (is_some opened.fourth) result.0 }
+    ensures slots { HasStoresOf opened result.0 }
     ensures answers { IfOk result.1 (λ ran.
         AllZip (IsAnswerIn M.RowName L0.RowName L1.RowName L2.RowName L3.RowName opened) orders.items ran.0.items) }
-    ensures first { IfOk result.1 (λ ran. IsBroughtIn M.RowName L0.RowName ran.1.first opened.master opened.first
-        result.0.master result.0.first) }
-    ensures second { IfOk result.1 (λ ran. IsBroughtIn M.RowName L1.RowName ran.1.second opened.master opened.second
-        result.0.master result.0.second) }
-    ensures third { IfOk result.1 (λ ran. IsBroughtIn M.RowName L2.RowName ran.1.third opened.master opened.third
-        result.0.master result.0.third) }
-    ensures fourth { IfOk result.1 (λ ran. IsBroughtIn M.RowName L3.RowName ran.1.fourth opened.master opened.fourth
-        result.0.master result.0.fourth) }
+    ensures brought { IfOk result.1 (λ ran. AreBroughtIn M.RowName L0.RowName L1.RowName L2.RowName L3.RowName
+        opened result.0 ran.1) }
 {
     let (shares, readers) = FleetShares::<M, L0, L1, L2, L3, D>::with_readers(alloc, opened);
     match shared(alloc, shares, readers) {

@@ -1,16 +1,15 @@
 //! A shared master as the port of a job.
-ghost use Rattle.std.specs.Prelude.{◌≡◌, ◌≤◌, ◌-◌, ◌⊎◌, ◌++◌, ◌∷◌, [], List, length, take, Some, IfOk, IfErr, IfSome, OnErr};
-ghost use Rattle.std.specs.Option.{option_map};
+ghost use Rattle.std.specs.Prelude.{◌≡◌, ◌≤◌, ◌∷◌, [], IfOk, IfErr, IfSome, OnErr};
 ghost use Rattle.uuid.specs.Text.{hyphenated_text, lower};
 ghost use Rattle.dump_load.specs.Trees.{Makes};
 ghost use Rattle.node_base.specs.declared.refusal.Refusal.TheVariants as refusal;
-ghost use Rattle.store_share.specs.Seats.{known_by, seen_by};
-ghost use Rattle.sync_core.specs.World.{Origin, moment_of, map_at};
-ghost use Rattle.sync_core.specs.World.{Makes as MakesTree};
-ghost use Rattle.sync_job.specs.Masters.{IsTrue};
-ghost use Rattle.sync_job.specs.Questions.{Exchange, Identity, Latest, Fetch, FetchProps};
+ghost use Rattle.store_share.specs.Seats.{seen_by, KeepsSeen, SeesOn};
+ghost use Rattle.sync_job.specs.Added.{Adds};
+ghost use Rattle.sync_job.specs.Masters.{GivesIdentity, GivesNewest, GivesProps, GivesRevisionOver, IsTrue};
+ghost use Rattle.sync_job.specs.Questions.{Identity, Latest, Fetch, FetchProps};
 ghost use Rattle.sync_job.specs.declared.master.MasterFault.TheVariants as fault;
-ghost use Rattle.fleet_shares.specs.Faults.{master_fault};
+ghost use Rattle.fleet_shares.specs.Brought.{HasSeen};
+ghost use Rattle.fleet_shares.specs.Faults.{master_fault, IsNoRevision};
 
 use fleet_disk::Disk;
 use node_base::{PropValue, Props, Refusal, RevNo};
@@ -65,9 +64,8 @@ impl<R: Wait, L: RowName, D: Disk> MasterPort for SharedMaster<'_, R, L, D> {
     fn identity(&mut self, alloc: Global) -> Result<PropValue, MasterFault>
         ensures seat { seat_of self.new ≡ seat_of self.old }
         ensures refused { IfErr result (λ f. f ≡ fault.Refused refusal.OutOfMemory) }
-        ensures value { IsTrue IsNowhere IsNowhere (λ o. IfOk result (λ v. v ≡ o.identity)) }
-        ensures answered { (first : _) (made : List Exchange) → WasTold self.old first made
-            → WasTold self.new first (made ++ Identity result ∷ []) }
+        ensures value { IsTrue IsNowhere IsNowhere (GivesIdentity result) }
+        ensures answered { Adds WasTold self.old self.new (Identity result ∷ []) }
     {
         match identity_text(alloc, self.share.identity(self.rt)) {
             Ok(text) => Ok(text),
@@ -80,11 +78,9 @@ impl<R: Wait, L: RowName, D: Disk> MasterPort for SharedMaster<'_, R, L, D> {
         ensures most { IfOk result (λ n. seen_by (seat_of self.old) ≤ n) }
         ensures seen { IfOk result (λ n. seen_by (seat_of self.new) ≡ n) }
         ensures taken { OnErr result ⊥ }
-        ensures kept { (r : _) → r ≤ seen_by (seat_of self.old)
-            → known_by (seat_of self.new) r ≡ known_by (seat_of self.old) r }
-        ensures value { IsTrue IsNowhere IsNowhere (λ o. IfOk result (λ n. n ≡ length o.trees - 1)) }
-        ensures answered { (first : _) (made : List Exchange) → WasTold self.old first made
-            → WasTold self.new first (made ++ Latest result ∷ []) }
+        ensures kept { KeepsSeen (seat_of self.old) (seat_of self.new) }
+        ensures value { IsTrue IsNowhere IsNowhere (GivesNewest result) }
+        ensures answered { Adds WasTold self.old self.new (Latest result ∷ []) }
     {
         Ok(self.share.latest(self.rt, &mut self.seat))
     }
@@ -97,20 +93,13 @@ impl<R: Wait, L: RowName, D: Disk> MasterPort for SharedMaster<'_, R, L, D> {
         number: RevNo,
         trees: &[Tree],
     ) -> Result<Fetched, MasterFault>
-        ensures within { IfOk result (λ p. number ≤ seen_by (seat_of self.new)) }
-        ensures changes { IfOk result
-            (λ r. option_map (λ x. x.set) (known_by (seat_of self.new) number) ≡ Some r.set) }
-        ensures kept { (r : _) → r ≤ seen_by (seat_of self.old)
-            → known_by (seat_of self.new) r ≡ known_by (seat_of self.old) r }
-        ensures seen { seen_by (seat_of self.old) ≤ seen_by (seat_of self.new) }
-        ensures refused { IfErr result (λ f. (f ≡ fault.Refused refusal.NoSuchRevision)
-            ⊎ (f ≡ fault.Refused refusal.OutOfMemory)) }
-        ensures set { IsTrue IsNowhere IsNowhere
-            (λ o. take number o.trees ≡ trees.now → IfOk result
-            (λ r. MakesTree o number r.set × (map_at o (moment_of o) number ≡ Some r.props))) }
+        ensures changes { IfOk result (λ r. HasSeen (seat_of self.new) number r.set) }
+        ensures kept { KeepsSeen (seat_of self.old) (seat_of self.new) }
+        ensures seen { SeesOn (seat_of self.old) (seat_of self.new) }
+        ensures refused { IfErr result IsNoRevision }
+        ensures set { IsTrue IsNowhere IsNowhere (GivesRevisionOver trees.now number result) }
         ensures tree { IfOk result (λ r. IfSome r.tree (Makes trees.now r.set)) }
-        ensures answered { (first : _) (made : List Exchange) → WasTold self.old first made
-            → WasTold self.new first (made ++ Fetch number trees.now result ∷ []) }
+        ensures answered { Adds WasTold self.old self.new (Fetch number trees.now result ∷ []) }
     {
         let _ = trees;
         match self.share.fetch(self.rt, alloc, &mut self.seat, number) {
@@ -122,12 +111,9 @@ impl<R: Wait, L: RowName, D: Disk> MasterPort for SharedMaster<'_, R, L, D> {
     /// The properties that the revision has now. NoSuchRevision (21) above the head, OutOfMemory (70).
     fn fetch_props(&mut self, _alloc: Global, number: RevNo) -> Result<Props, MasterFault>
         ensures seat { seat_of self.new ≡ seat_of self.old }
-        ensures refused { IfErr result (λ f. (f ≡ fault.Refused refusal.NoSuchRevision)
-            ⊎ (f ≡ fault.Refused refusal.OutOfMemory)) }
-        ensures value { IsTrue IsNowhere IsNowhere
-            (λ o. IfOk result (λ p. map_at o (moment_of o) number ≡ Some p)) }
-        ensures answered { (first : _) (made : List Exchange) → WasTold self.old first made
-            → WasTold self.new first (made ++ FetchProps number result ∷ []) }
+        ensures refused { IfErr result IsNoRevision }
+        ensures value { IsTrue IsNowhere IsNowhere (GivesProps number result) }
+        ensures answered { Adds WasTold self.old self.new (FetchProps number result ∷ []) }
     {
         match self.share.fetch_props(self.rt, number) {
             Ok(props) => Ok(props),

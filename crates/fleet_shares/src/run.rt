@@ -1,8 +1,8 @@
 //! Orders that are run over shares.
-ghost use Rattle.std.specs.Prelude.{◌≡◌, IfOk, is_some};
+ghost use Rattle.std.specs.Prelude.{◌≡◌, IfOk};
 ghost use Rattle.std.specs.List.{AllZip};
 ghost use Rattle.std.specs.Arc.{arc_value};
-ghost use Rattle.fleet_shares.specs.Opening.{HasStores};
+ghost use Rattle.fleet_shares.specs.Opening.{HasClosed};
 ghost use Rattle.fleet_shares.specs.Runners.{MayAnswer};
 
 use crate::answers::{Answered, answer_all};
@@ -60,8 +60,7 @@ pub fn stores_of<
     L3: MirrorName,
     D: Disk,
 >(rt: &R, shares: Arc<FleetShares<M, L0, L1, L2, L3, D>>) -> FleetStores<D>
-    ensures slots { HasStores (is_some (arc_value shares).first) (is_some (arc_value shares).second)
-        (is_some (arc_value shares).third) (is_some (arc_value shares).fourth) result }
+    ensures slots { HasClosed (arc_value shares) result }
 {
     unshared(rt, shares).close()
 }

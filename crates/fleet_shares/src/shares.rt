@@ -1,10 +1,10 @@
 //! A master and the mirrors of four slots, each on a disk that threads share.
-ghost use Rattle.std.specs.Prelude.{◌≡◌, IfOk, IfSome, Ok, is_some, if◌then◌else◌, false};
+ghost use Rattle.std.specs.Prelude.{◌≡◌, IfOk, IfSome, is_some, if◌then◌else◌, false};
 ghost use Rattle.mirror_share.specs.Names.{IsNamed};
 ghost use Rattle.mirror_share.specs.Seen.{HasSeenAll};
 ghost use Rattle.repo_store.specs.Words.{repository_of};
 ghost use Rattle.store_share.specs.Opened.{cells_of, store_in};
-ghost use Rattle.fleet_shares.specs.Closing.{IsReadBy};
+ghost use Rattle.fleet_shares.specs.Closing.{AreReaders, IsReadBy};
 
 use crate::brings::Brings;
 use crate::closing::{settled, stays};
@@ -57,7 +57,8 @@ impl<
     L3: MirrorName,
     D: Disk,
 > FleetShares<M, L0, L1, L2, L3, D> {
-    ghost use Rattle.fleet_shares.specs.Closing.{IsBroughtSince};
+    ghost use Rattle.fleet_shares.specs.Closing.{AreBroughtSince, HaveSeenAll};
+    ghost use Rattle.fleet_shares.specs.Opening.{HasClosed, HasShares};
 
     /// The shares of opened stores under the names of their rows and ledgers. Nobody runs at a mirror, and no seat holds its sync
     /// lock, whatever token that has.
@@ -67,8 +68,7 @@ impl<
         requires second { IfSome opened.second (λ o. IsNamed o L1.cells L1.merged L1.copying L1.head L1.holder) }
         requires third { IfSome opened.third (λ o. IsNamed o L2.cells L2.merged L2.copying L2.head L2.holder) }
         requires fourth { IfSome opened.fourth (λ o. IsNamed o L3.cells L3.merged L3.copying L3.head L3.holder) }
-        ensures slots { (is_some result.first ≡ is_some opened.first) × (is_some result.second ≡ is_some opened.second)
-            × (is_some result.third ≡ is_some opened.third) × (is_some result.fourth ≡ is_some opened.fourth) }
+        ensures slots { HasShares opened result }
     {
         let (shares, _readers) = FleetShares::with_readers(alloc, opened);
         shares
@@ -88,14 +88,8 @@ impl<
         requires second { IfSome opened.second (λ o. IsNamed o L1.cells L1.merged L1.copying L1.head L1.holder) }
         requires third { IfSome opened.third (λ o. IsNamed o L2.cells L2.merged L2.copying L2.head L2.holder) }
         requires fourth { IfSome opened.fourth (λ o. IsNamed o L3.cells L3.merged L3.copying L3.head L3.holder) }
-        ensures slots { (is_some result.0.first ≡ is_some opened.first)
-            × (is_some result.0.second ≡ is_some opened.second) × (is_some result.0.third ≡ is_some opened.third)
-            × (is_some result.0.fourth ≡ is_some opened.fourth) }
-        ensures master { IfOk result.1 (λ r. HasSeenAll r.master (repository_of (store_in opened.master))) }
-        ensures first { IfOk result.1 (λ r. IsReadBy opened.first r.first) }
-        ensures second { IfOk result.1 (λ r. IsReadBy opened.second r.second) }
-        ensures third { IfOk result.1 (λ r. IsReadBy opened.third r.third) }
-        ensures fourth { IfOk result.1 (λ r. IsReadBy opened.fourth r.fourth) }
+        ensures slots { HasShares opened result.0 }
+        ensures readers { IfOk result.1 (HaveSeenAll opened) }
     {
         let OpenedFleet {
             master,
@@ -129,8 +123,7 @@ impl<
 
     /// The stores, each with all that was taken.
     pub fn close(self) -> FleetStores<D>
-        ensures slots { (is_some result.first ≡ is_some self.first) × (is_some result.second ≡ is_some self.second)
-            × (is_some result.third ≡ is_some self.third) × (is_some result.fourth ≡ is_some self.fourth) }
+        ensures slots { HasClosed self result }
     {
         let FleetShares {
             master,
@@ -150,13 +143,8 @@ impl<
 
     /// The same, and which mirrors have been brought up to the master since these readers saw all that was opened.
     pub(crate) fn settle(self, readers: FleetReaders<M, L0, L1, L2, L3>) -> (FleetStores<D>, Brings)
-        ensures slots { (is_some result.0.first ≡ is_some self.first) × (is_some result.0.second ≡ is_some self.second)
-            × (is_some result.0.third ≡ is_some self.third) × (is_some result.0.fourth ≡ is_some self.fourth) }
-        ensures first { IsBroughtSince result.1.first readers.master readers.first result.0.master result.0.first }
-        ensures second { IsBroughtSince result.1.second readers.master readers.second result.0.master result.0.second }
-        ensures third { IsBroughtSince result.1.third readers.master readers.third result.0.master result.0.third }
-        ensures fourth { IsBroughtSince result.1.fourth readers.master readers.fourth result.0.master
-            result.0.fourth }
+        ensures slots { HasClosed self result.0 }
+        ensures brought { AreBroughtSince result.1 readers result.0 }
     {
         let FleetShares {
             master,
@@ -237,11 +225,7 @@ fn all_read<M: RowName, L0: RowName, L1: RowName, L2: RowName, L3: RowName>(
     third: SlotReader<L2>,
     fourth: SlotReader<L3>,
 ) -> Readers<M, L0, L1, L2, L3>
-    ensures master { IfOk result (λ r. master ≡ Ok r.master) }
-    ensures first { IfOk result (λ r. first ≡ Ok r.first) }
-    ensures second { IfOk result (λ r. second ≡ Ok r.second) }
-    ensures third { IfOk result (λ r. third ≡ Ok r.third) }
-    ensures fourth { IfOk result (λ r. fourth ≡ Ok r.fourth) }
+    ensures { IfOk result (AreReaders master first second third fourth) }
 {
     match (master, first, second, third, fourth) {
         (Ok(master), Ok(first), Ok(second), Ok(third), Ok(fourth)) => Ok(FleetReaders {

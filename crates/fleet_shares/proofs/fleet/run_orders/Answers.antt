@@ -18,7 +18,7 @@ run_opened-requires-clause-fourth g c κs within = own_names _ c.in-Ok.opened.fo
 
 pub returns-in-Ok-clause-brought : goal.returns-in-Ok-clause-brought
 returns-in-Ok-clause-brought g c =
-    brought_over (cells_of c.in-Ok.opened.master) (cells_at c.in-Ok.opened.first) (cells_at c.in-Ok.opened.second) (cells_at c.in-Ok.opened.third) (cells_at c.in-Ok.opened.fourth) c.args.stores c.run_opened.result.0 c.in-Ok.opened c.in-Ok.ensures.from c.run_opened.result.1 c.run_opened.ensures.first c.run_opened.ensures.second c.run_opened.ensures.third c.run_opened.ensures.fourth
+    brought_over (cells_of c.in-Ok.opened.master) (cells_at c.in-Ok.opened.first) (cells_at c.in-Ok.opened.second) (cells_at c.in-Ok.opened.third) (cells_at c.in-Ok.opened.fourth) c.args.stores c.run_opened.result.0 c.in-Ok.opened c.in-Ok.ensures.from c.run_opened.result.1 c.run_opened.ensures.brought
 
 pub returns-in-Ok-clause-answers : goal.returns-in-Ok-clause-answers
 returns-in-Ok-clause-answers g c =
