@@ -1,6 +1,5 @@
 -- What a master in a store answers.
-use Rattle.std.proofs.Common.{◌≡◌, ◌≤◌, ℕ, List, [], ◌∷◌, ◌++◌, length, Option, Some, None, ap, subst, ◌∙◌, arith}
-use Rattle.std.specs.Prelude.{slice_get}
+use Rattle.std.proofs.Common.{◌≡◌, List, [], ◌∷◌, ◌++◌, subst, ◌∙◌}
 use Rattle.std.specs.List.{AllByRecursion}
 use Rattle.repo_core.specs.Repository.{Repository}
 use Rattle.sync_job.specs.Alone.{IsAnsweredBy}

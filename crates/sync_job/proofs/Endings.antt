@@ -268,9 +268,6 @@ pub follows_fine : (s : JobState) (job : Job) → ending_of s ≡ Some ending.Fi
 follows_fine s job h (inl f) = f
 follows_fine s job h (inr r) = absurd (fine_refused r.0 (sym h ∙ r.1))
 
-pub no_fine : {f : SyncFault} → ending.Fine ≡ ending.Refused f → ⊥
-no_fine h = cc
-
 pub same_fault : (f g : SyncFault) → ending.Refused f ≡ ending.Refused g → f ≡ g
 same_fault f g h = cc
 

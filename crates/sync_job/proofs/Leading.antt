@@ -1,8 +1,8 @@
 -- What was said in a run leads its mirror, and so by what the master told.
-use Rattle.std.proofs.Common.{◌≡◌, ◌⊎◌, inl, inr, ℕ, zero, suc, ◌≤◌, ◌<◌, ◌+◌, ◌==◌, Bool, true, false, List, [], ◌∷◌, ◌++◌, length, length-append, take, map, Option, Some, None, IfSome, IsSome, IsSomeAnd, Result, Ok, Err, if◌then◌else◌, refl, sym, ap, subst, ◌∙◌, arith}
+use Rattle.std.proofs.Common.{◌≡◌, ◌⊎◌, inl, inr, ℕ, zero, suc, ◌≤◌, ◌<◌, ◌+◌, ◌==◌, true, false, List, [], ◌∷◌, ◌++◌, length, length-append, take, Option, Some, None, IsSome, IsSomeAnd, Result, Ok, Err, if◌then◌else◌, refl, sym, ap, subst, ◌∙◌, arith}
 use Rattle.std.specs.List.{AllByRecursion, AllZip}
 use Rattle.std.proofs.Math.Seq.{take-append_seam}
-use Rattle.std.proofs.lemmas.List.{append-nil, append_assoc, map-append, length-map}
+use Rattle.std.proofs.lemmas.List.{map-append, length-map}
 use Rattle.std.specs.Option.{option_map_or}
 use Rattle.node_base.specs.Tree.{PathMap}
 use Rattle.node_base.specs.Props.{PropMap}
@@ -10,7 +10,7 @@ use Rattle.dump_load.specs.declared.change.Change.{Change}
 use Rattle.dump_load.specs.Trees.{Makes, effect_tree}
 use Rattle.node_base.specs.declared.refusal.Refusal.TheVariants as device
 use Rattle.repo_core.specs.Repository.{Repository, Revision, trees_of, tree_at, head_of}
-use Rattle.repo_core.specs.Entries.{with_entry, with_entry_in}
+use Rattle.repo_core.specs.Entries.{with_entry}
 use Rattle.repo_core.specs.declared.entry.Entry.{Entry}
 use Rattle.repo_core.specs.declared.entry.Entry.TheVariants.{Revised, Mapped}
 use Rattle.sync_core.specs.declared.answer.Answer.{Answer}
@@ -20,7 +20,6 @@ use Rattle.sync_core.specs.declared.fault.SyncFault.TheVariants as fault
 use Rattle.sync_core.specs.declared.reply.Reply.{Reply as Given}
 use Rattle.sync_core.specs.declared.reply.Reply.TheVariants as given
 use Rattle.sync_core.specs.Copies.{Outcome, outcome_of}
-use Rattle.sync_core.specs.Copies as kept
 use Rattle.sync_core.specs.Deeds.{Deed, Calls, AsksIdentity, AsksLatest, Fetches, FetchesProps, Ends, called, heard}
 use Rattle.sync_core.specs.Going.{CommitsInOrder}
 use Rattle.sync_core.specs.Jobs.{Job, Fetched, Order, Lawful, begun, last_fetch, with_fetched, done_by}
@@ -30,18 +29,17 @@ use Rattle.sync_core.specs.Mirror as reply
 use Rattle.sync_core.proofs.Kept.{is_equal}
 use Rattle.sync_job.specs.Alone.{IsHeardOf, IsSetIn}
 use Rattle.sync_job.specs.Asked.{Asked}
-use Rattle.sync_job.specs.Fronts.{IsHeard, counted_by, counted_in, replayed, is_device}
+use Rattle.sync_job.specs.Fronts.{IsHeard, counted_by, counted_in, replayed}
 use Rattle.sync_job.specs.Kept.{refused_as}
-use Rattle.sync_job.specs.Leading.{IsMirrorStep, IsLawful, LeadsMirror, TellsMaster, StaysFirst, FrontsStayFirst, SyncedHasAll}
-use Rattle.sync_job.specs.Masters.{fault_text}
-use Rattle.sync_job.specs.Mirrors.{MirrorNow, mirror_in, repository_by, accepted, doubted, Steps, Accepted, Doubted, Unchanged, IsAccepted}
+use Rattle.sync_job.specs.Leading.{IsMirrorStep, IsLawful, StaysFirst, FrontsStayFirst, SyncedHasAll}
+use Rattle.sync_job.specs.Mirrors.{MirrorNow, mirror_in, repository_by, Steps, Accepted, Doubted, Unchanged, IsAccepted}
 use Rattle.sync_job.specs.Questions.{Exchange, Identity, Latest, Fetch, FetchProps, LeadsBy, IsSaidOf, deed_for, outcome_for, questions_in}
 use Rattle.sync_job.specs.Runs.{answer_of, hears, hears_all}
 use Rattle.sync_job.specs.Said.{Spoken, Says, NoTree, Tells}
 use Rattle.sync_job.specs.Telling.{IsSaidAs, calls_in}
 use Rattle.sync_job.specs.Worlds.{AreFirst}
 use Rattle.sync_job.proofs.Fronts.{cause_isnt, refused_counts}
-use Rattle.sync_job.proofs.Worlds.{some_is, one_more, first_on, revisions_in, no_one}
+use Rattle.sync_job.proofs.Worlds.{some_is, one_more, revisions_in}
 
 -- lists of revisions
 
@@ -64,9 +62,6 @@ grows_by : (r : Repository) (call : Call) → length r.revisions ≤ length (rep
 grows_by r call = subst (λ x. length r.revisions ≤ length x) (sym (revisions_in r (entry_of r.revisions call))) (grows r.revisions (entry_of r.revisions call))
 
 -- a step of a mirror
-
-ok_isnt : {A : Type 0} (r : Given) (f : SyncFault) → ◌≡◌ {A = Result Given SyncFault} (Ok r) (Err f) → A
-ok_isnt r f e = absurd (cc)
 
 step_grows : (m now : MirrorNow) (call : Call) (result : Result Given SyncFault) → Steps m 0 call result now → length m.repository.revisions ≤ length now.repository.revisions
 step_grows m now call result (Accepted r e p) = subst (λ x. length m.repository.revisions ≤ length x.repository.revisions) (sym p.mirror) (grows_by m.repository call)
@@ -203,12 +198,12 @@ refused_knows source job m (SetMerged x) k = k
 refused_knows source job m ClearCopying k = k
 refused_knows source job m Look k = k
 
-heard_err : {A : Type 0} (f : SyncFault) (s : Standing) → IsHeard (Err f) (answer.Seen s) → A
+pub heard_err : {A : Type 0} (f : SyncFault) (s : Standing) → IsHeard (Err f) (answer.Seen s) → A
 heard_err f s (inl e) = absurd (cc)
 heard_err f s (inr (inl e)) = absurd (let x = e.0 in cc)
 heard_err f s (inr (inr e)) = absurd (let x = e.0 in cc)
 
-heard_done : {A : Type 0} (f : SyncFault) → IsHeard (Err f) answer.Done → A
+pub heard_done : {A : Type 0} (f : SyncFault) → IsHeard (Err f) answer.Done → A
 heard_done f (inl e) = absurd (cc)
 heard_done f (inr (inl e)) = absurd (let x = e.0 in cc)
 heard_done f (inr (inr e)) = absurd (let x = e.0 in cc)

@@ -12,7 +12,6 @@ use Rattle.repo_core.specs.declared.entry.Entry.{Entry}
 use Rattle.repo_core.specs.declared.entry.Entry.TheVariants.{Revised, Mapped}
 use Rattle.sync_core.specs.declared.answer.Answer.{Answer}
 use Rattle.sync_core.specs.declared.answer.Answer.TheVariants as answer
-use Rattle.sync_core.specs.declared.fault.SyncFault.{SyncFault}
 use Rattle.sync_core.specs.declared.fault.SyncFault.TheVariants as fault
 use Rattle.sync_core.specs.declared.resting.Resting.{Resting}
 use Rattle.sync_core.specs.declared.resting.Resting.TheVariants as resting
@@ -225,7 +224,3 @@ entry_made x Look (Revised n set p) tree is k h = absurd (cc)
 -- the trees that are there stay with an entry that is taken
 pub first_taken : (old mid new : Repository) (e : Entry) (trees : List PathMap) → mid ≡ old → new ≡ with_entry_in mid e → AreFirst trees (trees_of old.revisions) → AreFirst trees (trees_of new.revisions)
 first_taken old mid new e trees same taken f = subst (λ r. AreFirst trees (trees_of r.revisions)) (sym (taken ∙ ap (λ r. with_entry_in r e) same)) (first_on old.revisions (Some e) trees f)
-
--- a refusal makes nothing
-pub refused_makes : (trees : List PathMap) (n : ℕ) (a : Answer) (tree : Option PathMap) → (f : SyncFault) × (a ≡ answer.Refused f) → IsMadeBy trees n a tree
-refused_makes trees n a tree r = subst (λ x. IsMadeBy trees n x tree) (sym r.1) tt

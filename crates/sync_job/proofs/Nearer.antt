@@ -1,5 +1,5 @@
 -- A job comes nearer to its end with each answer, so its run ends by itself.
-use Rattle.std.proofs.Common.{◌≡◌, ◌≢◌, ◌⊎◌, inl, inr, ℕ, ◌+◌, ◌<◌, ◌≤◌, true, false, List, refl, sym, subst, arith}
+use Rattle.std.proofs.Common.{◌≡◌, ◌≢◌, ◌⊎◌, inl, inr, ℕ, ◌+◌, ◌≤◌, true, false, List, refl, sym, subst, arith}
 use Rattle.sync_core.specs.declared.answer.Answer.{Answer}
 use Rattle.sync_core.specs.declared.state.JobState.{JobState}
 use Rattle.sync_core.specs.declared.state.JobState.TheVariants as state
@@ -23,10 +23,6 @@ use Rattle.sync_core.specs.States.{deed_in, after}
 -- one answer more
 pub nearer_on : ComesNearer → (s t u : JobState) (a : Answer) (i : ℕ) → u ≡ after t a → CanBe a → deed_in t ≢ Ends → left t + i ≤ left s → left u + (i + 1) ≤ left s
 nearer_on nearer s t u a i e can goes h = subst (λ x. left x + (i + 1) ≤ left s) (sym e) (omega (arith, nearer t a can goes, h))
-
--- a job that has answers to come for a whole number of 64 bits isn't one of those that begin
-pub never_so_long : (s t : JobState) (most : ℕ) → left s < most → left t + most ≤ left s → ⊥
-never_so_long s t most small h = omega (arith, small, h)
 
 sync_releases : (p : SyncPhase) (k : Known) (a : Answer) → sync_table.deed_in p ≡ Calls ReleaseLock → sync_table.deed_in (sync_table.after_in p k a).phase ≡ Ends
 sync_releases (phase.Lock token true) k a h = absurd (cc)
@@ -115,53 +111,12 @@ begins_on (state.Copy s) a h = elim (copy_begins s.token s.phase s.low s.high a 
   | inr e ↦ inr (inr e)
 ]
 
-sync_unlocked : (p : SyncPhase) → SyncBegins p → sync_table.deed_in p ≢ Calls ReleaseLock
-sync_unlocked (phase.Lock token true) h x = absurd (cc)
-sync_unlocked (phase.Lock token false) h x = absurd (cc)
-sync_unlocked phase.Look h x = h
-sync_unlocked (phase.Who shape uuid) h x = h
-sync_unlocked phase.Latest h x = h
-sync_unlocked (phase.SetCopying n) h x = h
-sync_unlocked (phase.Fetch n) h x = h
-sync_unlocked (phase.Commit n set props) h x = h
-sync_unlocked (phase.FetchProps n) h x = h
-sync_unlocked (phase.Put n props) h x = h
-sync_unlocked (phase.Merge n) h x = h
-sync_unlocked phase.Clear h x = h
-sync_unlocked (phase.Release e) h x = h
-sync_unlocked (phase.End e) h x = h
-
-copy_unlocked : (token : List ℕ) (p : CopyPhase) → CopyBegins p → copy_table.deed_in token p ≢ Calls ReleaseLock
-copy_unlocked token copying.Lock h x = absurd (cc)
-copy_unlocked token copying.Look h x = h
-copy_unlocked token (copying.Who m uuid) h x = h
-copy_unlocked token (copying.FetchProps n) h x = h
-copy_unlocked token (copying.Put n props) h x = h
-copy_unlocked token (copying.Release e) h x = h
-copy_unlocked token (copying.End e) h x = h
-
-init_unlocked : (url : List ℕ) (p : InitPhase) → init_table.deed_in url p ≢ Calls ReleaseLock
-init_unlocked url initial.Who x = absurd (cc)
-init_unlocked url (initial.FetchProps u) x = absurd (cc)
-init_unlocked url (initial.Init u props) x = absurd (cc)
-init_unlocked url (initial.End e) x = absurd (cc)
-
-unlocked : (s : JobState) → IsUnlocked s → deed_in s ≢ Calls ReleaseLock
-unlocked (state.Init s) h = init_unlocked s.url s.phase
-unlocked (state.Sync s) h = sync_unlocked s.phase h
-unlocked (state.Copy s) h = copy_unlocked s.token s.phase h
-
 -- there is room for the release of a job's lock from the lock on
 abbrev pub HasRoomFor : Type 0 → JobState → Type 0
 HasRoomFor Room s = (deed_in s ≡ Ends) ⊎ (IsUnlocked s ⊎ Room)
 
 no_end : (s : JobState) → deed_in s ≡ Ends → deed_in s ≢ Calls ReleaseLock
 no_end s e x = cc
-
-pub room_for_release : (Room : Type 0) (s : JobState) → HasRoomFor Room s → deed_in s ≡ Calls ReleaseLock → Room
-room_for_release Room s (inl e) d = absurd (no_end s e d)
-room_for_release Room s (inr (inl u)) d = absurd (unlocked s u d)
-room_for_release Room s (inr (inr r)) d = r
 
 -- and by each answer
 pub room_on : (Old New : Type 0) (s t : JobState) (a : Answer) → t ≡ after s a → deed_in s ≢ Ends → HasRoomFor Old s → (Old ⊎ (a ≡ answer.Done) → (deed_in s ≡ Calls ReleaseLock) ⊎ New) → HasRoomFor New t

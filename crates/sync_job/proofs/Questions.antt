@@ -7,7 +7,7 @@ use Rattle.sync_core.specs.declared.answer.Answer.TheVariants as answer
 use Rattle.sync_core.specs.declared.fault.SyncFault.{SyncFault}
 use Rattle.sync_core.specs.declared.fault.SyncFault.TheVariants.{OutOfMemory}
 use Rattle.sync_core.specs.Copies.{Outcome, outcome_of}
-use Rattle.sync_core.specs.Deeds.{Deed, Calls, AsksIdentity, AsksLatest, Fetches, FetchesProps, Ends}
+use Rattle.sync_core.specs.Deeds.{Calls}
 use Rattle.sync_core.specs.Mirror.{Call}
 use Rattle.sync_job.specs.declared.port_call.PortCall.{PortCall}
 use Rattle.sync_job.specs.declared.report.Told.{Told}

@@ -17,7 +17,7 @@ use Rattle.sync_core.specs.Copies.{Outcome, outcome_of}
 use Rattle.sync_core.specs.Copies as kept
 use Rattle.sync_core.specs.States.{deed_in, after, Follows}
 use Rattle.sync_core.specs.Hearing.{StopsInFlight}
-use Rattle.sync_core.specs.World.{Origin, Room, World, Event, At, Happening, Begin, Stop, StopAfter, MayHappen, MayBe, run, IsRun, world_after, room_after, stopped}
+use Rattle.sync_core.specs.World.{Origin, World, Event, At, Happening, Begin, Stop, StopAfter, MayHappen, run, IsRun, world_after, room_after, stopped}
 use Rattle.sync_core.specs.World as world
 use Rattle.sync_core.specs.Law.{Starts, Holds, EveryRun}
 use Rattle.sync_job.specs.declared.report.Told.{Told}

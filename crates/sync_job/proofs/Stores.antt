@@ -23,7 +23,7 @@ use Rattle.repo_store.specs.declared.fault.StoreFault.TheVariants.{Repo, Log}
 use Rattle.repo_store.specs.declared.staged.Staged.{Staged}
 use Rattle.repo_store.specs.declared.store.RepoStore.{RepoStore}
 use Rattle.sync_core.specs.Faults.{of_repository}
-use Rattle.sync_core.specs.Mirror.{Mirror, Call, Init, TakeLock, StealLock, ReleaseLock, SetCopying, Commit, PutProps, SetMerged, ClearCopying, Look, Refusal, OfRepository, Reply, Refused, refusal, unmet, standing_of, entry_of, mirror_with, granted, reply_to, holder_after}
+use Rattle.sync_core.specs.Mirror.{Mirror, Call, Init, TakeLock, StealLock, ReleaseLock, SetCopying, Commit, PutProps, SetMerged, ClearCopying, Look, Refusal, OfRepository, Refused, refusal, standing_of, entry_of, mirror_with, granted, holder_after}
 use Rattle.sync_core.specs.Mirror as mirror_reply
 use Rattle.sync_core.specs.Plain.{IsNumbered, IsRefused, AnswersErr}
 use Rattle.sync_core.specs.Plans.{IsToWrite, IsPlanned}
@@ -254,27 +254,27 @@ not_granted m (SetMerged n) why h = cc
 not_granted m ClearCopying why h = cc
 not_granted m Look why h = cc
 
-refused_why : (m : Mirror) (call : Call) (why : Refusal) (o : Option Refusal) → Refused why ≡ option_map_or Refused o (granted m call) → o ≡ Some why
+pub refused_why : (m : Mirror) (call : Call) (why : Refusal) (o : Option Refusal) → Refused why ≡ option_map_or Refused o (granted m call) → o ≡ Some why
 refused_why m call why None h = absurd (not_granted m call why h)
 refused_why m call why (Some w) h = cc
 
-refused_cause : (m : MirrorNow) (call : Call) (f : SyncFault) → IsRefused (mirror_in m) 0 call f (mirror_in m) → IsCause m 0 call f
-refused_cause m call f r = Due (ByTable r.why (refused_why (mirror_in m) call r.why (refusal (mirror_in m) 0 call) r.step.replied) r.told)
+refused_cause : (m : MirrorNow) (seat : ℕ) (call : Call) (f : SyncFault) → IsRefused (mirror_in m) seat call f (mirror_in m) → IsCause m seat call f
+refused_cause m seat call f r = Due (ByTable r.why (refused_why (mirror_in m) call r.why (refusal (mirror_in m) seat call) r.step.replied) r.told)
 
-answer_cause : (m : MirrorNow) (call : Call) (f : SyncFault) → AnswersErr (mirror_in m) 0 call f (mirror_in m) → IsCause m 0 call f
-answer_cause m call fault.NotInitialised r = refused_cause m call fault.NotInitialised r
-answer_cause m call fault.AlreadyInitialised r = refused_cause m call fault.AlreadyInitialised r
-answer_cause m call fault.NotEmpty r = refused_cause m call fault.NotEmpty r
-answer_cause m call (fault.LockHeld t) r = refused_cause m call (fault.LockHeld t) r
-answer_cause m call (fault.HolderRunning t) r = refused_cause m call (fault.HolderRunning t) r
-answer_cause m call fault.WrongMaster r = refused_cause m call fault.WrongMaster r
-answer_cause m call (fault.Inconsistent a b c) r = refused_cause m call (fault.Inconsistent a b c) r
-answer_cause m call (fault.NotYetCopied k) r = refused_cause m call (fault.NotYetCopied k) r
-answer_cause m call fault.NotHolder r = refused_cause m call fault.NotHolder r
-answer_cause m call (fault.MasterFailed t) r = refused_cause m call (fault.MasterFailed t) r
-answer_cause m call fault.OutOfTurn r = refused_cause m call fault.OutOfTurn r
-answer_cause m call (fault.Other x) r = refused_cause m call (fault.Other x) r
-answer_cause m call fault.OutOfMemory r = NoMemory refl
+pub answer_cause : (m : MirrorNow) (seat : ℕ) (call : Call) (f : SyncFault) → AnswersErr (mirror_in m) seat call f (mirror_in m) → IsCause m seat call f
+answer_cause m seat call fault.NotInitialised r = refused_cause m seat call fault.NotInitialised r
+answer_cause m seat call fault.AlreadyInitialised r = refused_cause m seat call fault.AlreadyInitialised r
+answer_cause m seat call fault.NotEmpty r = refused_cause m seat call fault.NotEmpty r
+answer_cause m seat call (fault.LockHeld t) r = refused_cause m seat call (fault.LockHeld t) r
+answer_cause m seat call (fault.HolderRunning t) r = refused_cause m seat call (fault.HolderRunning t) r
+answer_cause m seat call fault.WrongMaster r = refused_cause m seat call fault.WrongMaster r
+answer_cause m seat call (fault.Inconsistent a b c) r = refused_cause m seat call (fault.Inconsistent a b c) r
+answer_cause m seat call (fault.NotYetCopied k) r = refused_cause m seat call (fault.NotYetCopied k) r
+answer_cause m seat call fault.NotHolder r = refused_cause m seat call fault.NotHolder r
+answer_cause m seat call (fault.MasterFailed t) r = refused_cause m seat call (fault.MasterFailed t) r
+answer_cause m seat call fault.OutOfTurn r = refused_cause m seat call fault.OutOfTurn r
+answer_cause m seat call (fault.Other x) r = refused_cause m seat call (fault.Other x) r
+answer_cause m seat call fault.OutOfMemory r = NoMemory refl
 
 -- a call isn't planned: the mirror is as it was
 pub not_planned : {D : Type 0} {G : Ghosts D} (old : RepoStore D G) (h : Option ℕ) (call : Call) (f : SyncFault) (m : MirrorNow)
@@ -282,7 +282,7 @@ pub not_planned : {D : Type 0} {G : Ghosts D} (old : RepoStore D G) (h : Option 
     → StandsAt old h m → AnswersErr (mirror_with (revisions_of old) h) 0 call f (mirror_with (revisions_of old) h) → Moved old old h h call (Err f) m
 not_planned old h call f m only s r =
     unchanged old old h call f m only s
-    (answer_cause m call f (subst (λ x. AnswersErr (mirror_with x.revisions m.holder) 0 call f (mirror_with x.revisions m.holder)) (sym s.repository) (subst (λ k. AnswersErr (mirror_with (revisions_of old) k) 0 call f (mirror_with (revisions_of old) k)) (sym s.holder_is) r)))
+    (answer_cause m 0 call f (subst (λ x. AnswersErr (mirror_with x.revisions m.holder) 0 call f (mirror_with x.revisions m.holder)) (sym s.repository) (subst (λ k. AnswersErr (mirror_with (revisions_of old) k) 0 call f (mirror_with (revisions_of old) k)) (sym s.holder_is) r)))
     refl refl (λ x. x, λ x. x)
 
 -- the same, as a port says it

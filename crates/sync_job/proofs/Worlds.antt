@@ -44,7 +44,7 @@ use Rattle.sync_core.specs.Law.{Starts, EveryRun, HolderGoesOn, IsMirrorOf}
 use Rattle.sync_job.specs.Said.{IsQuestion}
 use Rattle.sync_job.specs.Kept.{IsLook}
 use Rattle.sync_job.specs.Masters.{MasterStep, Commits, Edits, Comes, IsTrue, IsTrueAt}
-use Rattle.sync_job.specs.Mirrors.{MirrorNow, mirror_in, repository_by, IsFit, Steps, Accepted, Doubted, Unchanged}
+use Rattle.sync_job.specs.Mirrors.{MirrorNow, mirror_in, IsFit, Steps, Accepted, Doubted, Unchanged}
 use Rattle.sync_job.specs.Mirrors as mirrors
 use Rattle.sync_job.specs.Fronts.{IsHeard, accepted_by, counted_by}
 use Rattle.sync_job.proofs.Fronts.{came, cause_isnt, refused_counts, come_stays}

@@ -1,5 +1,5 @@
 -- What is done at a job's ports, said of the ports before it and after it.
-use Rattle.std.specs.Prelude.{ℕ, Bool, List, [], Option, Result}
+use Rattle.std.specs.Prelude.{◌≡◌, ℕ, Bool, List, [], Option, Result}
 use Rattle.node_base.specs.Tree.{PathMap}
 use Rattle.sync_core.specs.declared.answer.Answer.{Answer}
 use Rattle.sync_core.specs.declared.ending.Ending.{Ending}
@@ -8,14 +8,16 @@ use Rattle.sync_core.specs.declared.state.JobState.{JobState}
 use Rattle.sync_core.specs.Copies.{outcome_of}
 use Rattle.sync_core.specs.Deeds.{Deed}
 use Rattle.sync_core.specs.Jobs.{Order, begun}
+use Rattle.sync_core.specs.Measures.{CanBe}
 use Rattle.sync_core.specs.States.{Follows}
 use Rattle.sync_job.specs.declared.master.MasterPort.{Ghosts as MasterGhosts}
 use Rattle.sync_job.specs.declared.mirror.MirrorPort.{Ghosts as MirrorGhosts}
 use Rattle.sync_job.specs.declared.report.Report.{Ghosts as ReportGhosts}
 use Rattle.sync_job.specs.declared.ports.JobPorts.{JobPorts}
 use Rattle.sync_job.specs.Fronts.{WentAt, Moving, accepted_by, counted_by}
-use Rattle.sync_job.specs.Made.{BeginsOn, IsKeptFor, StillBegins}
+use Rattle.sync_job.specs.Made.{BeginsOn, IsKeptFor, KeepsMade, StillBegins}
 use Rattle.sync_job.specs.Questions.{KeepsAnswers}
+use Rattle.sync_job.specs.Rooms.{KeepsRoom}
 use Rattle.sync_job.specs.Runs.{Ran, IsSyncRun, IsInitRun, IsCopyRun}
 use Rattle.sync_job.specs.Said.{Acted}
 use Rattle.sync_job.specs.Stops.{StopsAsMirror}
@@ -70,6 +72,31 @@ MirrorBeginsOn G old new before after = BeginsOn G.begins_with (mirror_of old) (
 -- and with any trees that it began with
 abbrev pub MirrorStillBegins : {M N R : Type 0} → MirrorGhosts N → JobPorts M N R → JobPorts M N R → Type 0
 MirrorStillBegins G old new = StillBegins G.begins_with (mirror_of old) (mirror_of new)
+
+-- a deed is done and answered so, with the trees at hand before it and after it
+pub record Acts {M N R : Type 0} (G : MasterGhosts M) (H : MirrorGhosts N) (J : ReportGhosts R) (old new : JobPorts M N R) (before after : List PathMap) (d : Deed) (a : Answer) : Type 0 where
+  -- room for the release of the lock is made and stays
+  pub room : KeepsRoom d a old new
+  -- the answer is one that a port gives
+  pub can : CanBe a
+  -- both are said, and what each port was asked, once and in order
+  pub said : Speaks J old new d a
+  pub asked : SaysCalls H old new
+  pub answered : SaysQuestions G old new
+  -- what the deed does to the mirror, and is to a true master and a mirror
+  pub mirror : MovesMirror H old new d a
+  pub happens : HappensAt G H old new before after d a
+  -- the trees at hand are the mirror's first ones, and a fetched set's tree is kept for its commit
+  pub first : MirrorBeginsOn H old new before after
+  pub kept : KeepsMade after d a (tree_of new)
+
+-- nothing is done: nothing more is said or told, and the ports and the trees at hand stay
+pub record Rests {M N R : Type 0} (old new : JobPorts M N R) (before after : List PathMap) : Type 0 where
+  pub said : calls_of new ≡ calls_of old
+  pub told : report_of new ≡ report_of old
+  pub master : master_of new ≡ master_of old
+  pub mirror : mirror_of new ≡ mirror_of old
+  pub trees : after ≡ before
 
 -- a job runs from this state to its end
 abbrev pub RunsJob : {M N R : Type 0} → ReportGhosts R → JobPorts M N R → JobPorts M N R → JobState → Ending → Type 0

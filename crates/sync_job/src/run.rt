@@ -1,15 +1,12 @@
 //! Runs of jobs.
-ghost use Rattle.std.specs.Prelude.{◌≡◌, ◌≢◌, ◌<◌, None, Some, IfSome};
+ghost use Rattle.std.specs.Prelude.{◌≡◌, ◌≢◌, ◌<◌, Some, IfNone, IfSome};
 ghost use Rattle.sync_core.specs.Deeds.{Ends};
-ghost use Rattle.sync_core.specs.Measures.{CanBe, left};
+ghost use Rattle.sync_core.specs.Measures.{left};
 ghost use Rattle.sync_core.specs.States.{deed_in, ending_of};
-ghost use Rattle.sync_job.specs.Words.{calls_of, master_of, mirror_of, report_of, tree_of};
 ghost use Rattle.sync_job.specs.Left.{LeavesPorts};
-ghost use Rattle.sync_job.specs.Made.{KeepsMade};
-ghost use Rattle.sync_job.specs.Ports.{HappensAt, HasTreeFor, MirrorBeginsOn, MovesAsSaid, MovesMirror, RunsCopy};
-ghost use Rattle.sync_job.specs.Ports.{RunsInit, RunsInWorld, RunsJob, RunsSync, SaysCalls, SaysQuestions, Speaks};
-ghost use Rattle.sync_job.specs.Ports.{StopsInWorld};
-ghost use Rattle.sync_job.specs.Rooms.{IsReady, IsUnlocked, KeepsRoom};
+ghost use Rattle.sync_job.specs.Ports.{Acts, HasTreeFor, MovesAsSaid, Rests, RunsCopy, RunsInit, RunsInWorld, RunsJob};
+ghost use Rattle.sync_job.specs.Ports.{RunsSync, SaysCalls, SaysQuestions, StopsInWorld};
+ghost use Rattle.sync_job.specs.Rooms.{IsReady, IsUnlocked};
 ghost use Rattle.sync_job.specs.Runs.{answer_to};
 
 use crate::master::MasterPort;
@@ -116,21 +113,11 @@ fn next<M: MasterPort + Drop, N: MirrorPort + Drop, R: Report + Drop>(
 ) -> Option<Answer>
     requires ready { IsReady (deed_in state.now) ports.old }
     requires made { HasTreeFor N.MirrorPort ports.old (deed_in state.now) }
-    ensures room { IfSome result (λ a. KeepsRoom (deed_in state.now) a ports.old ports.new) }
-    ensures can { IfSome result CanBe }
-    ensures none { result ≡ None → (deed_in state.now ≡ Ends) × (calls_of ports.new ≡ calls_of ports.old) ×
-        (report_of ports.new ≡ report_of ports.old) }
-    ensures some { IfSome result (Speaks R.Report ports.old ports.new (deed_in state.now)) }
-    ensures stays { result ≡ None → mirror_of ports.new ≡ mirror_of ports.old }
-    ensures mirror { IfSome result (MovesMirror N.MirrorPort ports.old ports.new (deed_in state.now)) }
-    ensures asked { SaysCalls N.MirrorPort ports.old ports.new }
-    ensures answered { SaysQuestions M.MasterPort ports.old ports.new }
     ensures goes { IfSome result (λ _. deed_in state.now ≢ Ends) }
-    ensures master { result ≡ None → master_of ports.new ≡ master_of ports.old }
-    ensures happens { IfSome result (HappensAt M.MasterPort N.MirrorPort ports.old ports.new trees.old.items
+    ensures acts { IfSome result (Acts M.MasterPort N.MirrorPort R.Report ports.old ports.new trees.old.items
         trees.new.items (deed_in state.now)) }
-    ensures first { MirrorBeginsOn N.MirrorPort ports.old ports.new trees.old.items trees.new.items }
-    ensures kept { IfSome result (λ a. KeepsMade trees.new.items (deed_in state.now) a (tree_of ports.new)) }
+    ensures ends { IfNone result (deed_in state.now ≡ Ends) }
+    ensures rests { IfNone result (Rests ports.old ports.new trees.old.items trees.new.items) }
 {
     match decide(state) {
         Action::End => None,
