@@ -18,7 +18,7 @@ use Rattle.mirror_share.specs.Carried.{IsCarried}
 use Rattle.mirror_share.specs.Counts.{Counts}
 use Rattle.mirror_share.specs.Locked.{IsStepOf}
 use Rattle.mirror_share.specs.Refused.{IsRefusalOf}
-use Rattle.mirror_share.specs.Ports.{reader_of, seat_of, share_of, AreCarried, IsSeenBy, WasAsked}
+use Rattle.mirror_share.specs.Ports.{reader_of, seat_of, share_of, AreCarried, IsCallAt, IsSeenBy, WasAsked}
 use Rattle.mirror_share.specs.Seats.{hand_of, place_of}
 use Rattle.mirror_share.specs.Seen.{HasSeenCommit, HasSeenHead}
 
@@ -59,19 +59,16 @@ carried_on old mid new [] call result fit refused carried h = (fit, refused, (ne
 carried_on old mid new (b ∷ bs) call result fit refused carried h = (h.0, h.1, (h.2.0, h.2.1, carried_on h.2.0 mid new bs call result fit refused carried h.2.2))
 
 -- a call more
-pub asked_on : {R L D : Type 0} {r : _} {g : _} (first old new : SeatMirror R L D r g) (calls : List Asked) (call : Call) (result : Result Given SyncFault) → share_of new ≡ share_of old → place_of (seat_of new) ≡ place_of (seat_of old)
-    → seen_by (reader_of old) ≤ seen_by (reader_of new) → ((n : ℕ) → n ≤ seen_by (reader_of old) → known_by (reader_of new) n ≡ known_by (reader_of old) n)
-    → IsStepOf (share_of old) (place_of (seat_of old)) call result → OnOk result (HasSeenCommit call (known_by (reader_of new)) (seen_by (reader_of new))) → IfOk result (λ (x : Given). HasSeenHead x (seen_by (reader_of new)))
-    → IfOk result (IsFit call) → IfErr result (IsRefusalOf call) → IsCarried (hand_of (seat_of old)) (hand_of (seat_of new)) call result
+pub asked_on : {R L D : Type 0} {r : _} {g : _} (first old new : SeatMirror R L D r g) (calls : List Asked) (call : Call) (result : Result Given SyncFault) → IsCallAt old new call result → IfOk result (IsFit call) → place_of (seat_of new) ≡ place_of (seat_of old)
     → WasAsked old first calls → WasAsked new first (calls ++ asked_as call result ∷ [])
-asked_on first old new calls call result share seat later kept stepped commit head fit refused carried h =
+asked_on first old new calls call result at fit seat h =
     record {
-      share = share ∙ h.share;
+      share = at.share ∙ h.share;
       seat = seat ∙ h.seat;
       steps = all_append (λ a. IsStepOf (share_of first) (place_of (seat_of first)) a.call a.result) calls (asked_as call result ∷ []) h.steps
-          (subst (λ s. IsStepOf s (place_of (seat_of first)) call result) h.share (subst (λ k. IsStepOf (share_of old) k call result) h.seat stepped), tt);
-      seen = all_append (λ a. IsSeenBy (reader_of new) a.call a.result) calls (asked_as call result ∷ []) (seen_still (reader_of old) (reader_of new) later kept calls h.seen) (record { commit = commit; head = head }, tt);
-      carried = carried_on (hand_of (seat_of first)) (hand_of (seat_of old)) (hand_of (seat_of new)) calls call result fit refused carried h.carried;
+          (subst (λ s. IsStepOf s (place_of (seat_of first)) call result) h.share (subst (λ k. IsStepOf (share_of old) k call result) h.seat at.stepped), tt);
+      seen = all_append (λ a. IsSeenBy (reader_of new) a.call a.result) calls (asked_as call result ∷ []) (seen_still (reader_of old) (reader_of new) at.later at.kept calls h.seen) (at.done, tt);
+      carried = carried_on (hand_of (seat_of first)) (hand_of (seat_of old)) (hand_of (seat_of new)) calls call result fit at.refused at.carried h.carried;
     }
 
 -- and none

@@ -1,6 +1,6 @@
 -- What a seat carries through a call, by who has the hand.
 use Rattle.std.proofs.Common.{◌≡◌, ℕ, Bool, true, Option, Some, None, Result, Ok, Err, refl, sym, subst, ◌∙◌}
-use Rattle.std.specs.Prelude.{IsSome, IsErr, MatchOption, OnOk}
+use Rattle.std.specs.Prelude.{IsSome, MatchOption, OnOk}
 use Rattle.sync_core.specs.Holding.{TakesLock}
 use Rattle.sync_core.specs.Jobs.{Job}
 use Rattle.sync_core.specs.Mirror.{Call}
@@ -37,21 +37,3 @@ own_carried before after m new seat call result k k2 held held2 hand s l c c2 ow
   stays = λ job knows lawful goes. knows_then job call result hand k k2 after (has (holds_on before after m new seat call result goes own step)) (λ same. goes_on before after m new seat job call result k k2 held held2 s l c c2 same own knows lawful goes step);
   takes = lock_hand seat call new result (λ j. (j ≡ k2) × (after ≡ true → j ≡ k)) hand (took_lock before after m new seat call result step) has;
 }
-
--- the book lent it
-pub lent_carried : (before after : Bool) (m new : MirrorNow) (seat : ℕ) (call : Call) (result : Result Given SyncFault) (k k2 : Counts) (hand : Option Counts) → HasHand seat new.holder after k k2 hand
-    → StepsShown before m seat call result after new → IsCarried None hand call result
-lent_carried before after m new seat call result k k2 hand has step = record {
-  tells = tt;
-  served = λ job. tt;
-  stays = λ job. tt;
-  takes = lock_hand seat call new result (λ j. (j ≡ k2) × (after ≡ true → j ≡ k)) hand (took_lock before after m new seat call result step) has;
-}
-
-not_done : (result : Result Given SyncFault) → IsErr result → OnOk result (IsSome {T = Counts} None)
-not_done (Ok r) h = absurd (cc)
-not_done (Err f) h = tt
-
--- another seat has it
-pub none_carried : (call : Call) (result : Result Given SyncFault) → (TakesLock call → IsErr result) → IsCarried None None call result
-none_carried call result fails = record { tells = tt; served = λ job. tt; stays = λ job. tt; takes = λ t. not_done result (fails t) }

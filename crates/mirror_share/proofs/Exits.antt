@@ -37,8 +37,9 @@ use Rattle.mirror_share.specs.Book.{master_of, store_in, is_stuck_in, holder_of,
 use Rattle.mirror_share.specs.Causes.{IsCausedBy}
 use Rattle.mirror_share.specs.Stepped.{Stepped}
 use Rattle.mirror_share.specs.Steps.{StepsShown, Stuck, now_at, taken_by}
+use Rattle.sync_job.proofs.Stores.{look_told}
 use Rattle.mirror_share.proofs.Causing.{refused_cause, left_cause, broken_cause, stuck_cause, memory_cause}
-use Rattle.mirror_share.proofs.Stepping.{Doubts, accepted_step, broken_step, left_step, hidden_step, taken_moments, broken_moments, same_moments, head_later, no_memory, look_told, seen_step, refused_step}
+use Rattle.mirror_share.proofs.Stepping.{Doubts, accepted_step, broken_step, left_step, hidden_step, taken_moments, broken_moments, same_moments, head_later, no_memory, seen_step, refused_step}
 
 -- what a stop at this moment leaves is what it may leave now
 abbrev pub OnlyNow : {D : Type 0} {G : Ghosts D} → RepoStore D G → Type 0

@@ -1,19 +1,18 @@
 -- A seat that holds the lock of a shared mirror.
 use Rattle.std.proofs.Common.{◌≡◌, ◌≢◌, ℕ, List, [], ◌∷◌, Bool, true, false, Option, Some, None, IsSome, Result, Ok, Err, refl, sym, ap, subst, ◌∙◌}
 use Rattle.std.specs.FinMap as finite
-use Rattle.std.specs.Option.{option_map, option_map_or, option_and_then}
+use Rattle.std.specs.Option.{option_map, option_and_then}
 use Rattle.dump_load.specs.Faults.{first_of}
 use Rattle.dump_load.specs.declared.fault.ChangeFault.TheVariants as change
 use Rattle.node_base.specs.declared.refusal.Refusal.TheVariants as refusal_is
-use Rattle.repo_core.specs.Repository.{Repository, Revision, props_at}
-use Rattle.repo_core.specs.Entries.{with_entry, with_entry_in}
+use Rattle.repo_core.specs.Repository.{Revision, props_at}
 use Rattle.repo_core.specs.Refusals.{by_repository}
 use Rattle.repo_core.specs.declared.entry.Entry.{Entry}
 use Rattle.repo_core.specs.declared.fault.RepoFault.{RepoFault}
 use Rattle.repo_core.specs.declared.fault.RepoFault.TheVariants as repo
 use Rattle.sync_core.specs.Faults.{of_repository}
 use Rattle.sync_core.specs.Names.{lock_name}
-use Rattle.sync_core.specs.Holding.{HasLock, known_by}
+use Rattle.sync_core.specs.Holding.{HasLock}
 use Rattle.sync_core.specs.Holding as core
 use Rattle.sync_core.specs.Jobs.{Job, Lawful, answered, refused_to}
 use Rattle.sync_core.specs.Mirror.{Mirror, Call, ReleaseLock, Look, Refusal, Missed, OfRepository, refusal, unmet, standing_of, entry_of, granted, accepted, revisions_by, holder_after}
@@ -26,6 +25,7 @@ use Rattle.sync_core.specs.declared.fault.SyncFault.TheVariants as fault
 use Rattle.sync_core.specs.declared.reply.Reply.{Reply as Given}
 use Rattle.sync_core.specs.declared.reply.Reply.TheVariants as given
 use Rattle.sync_job.specs.Mirrors.{MirrorNow, mirror_in, repository_by, IsCause, Due, NoMemory, NoRoom, Broken, IsDue, ByTable, Steps, Accepted, Doubted, Unchanged, IsAccepted}
+use Rattle.sync_job.proofs.Worlds.{revisions_in}
 use Rattle.mirror_share.specs.Steps.{Shown, Hides, Stuck}
 use Rattle.mirror_share.specs.Holding.{OthersLeaveIt, HolderIsServed, IsServed, job_after}
 
@@ -36,17 +36,12 @@ no_entry x y same none some = let e : IsSome {T = Entry} None = subst (λ (o : O
 look_writes : (m : MirrorNow) (call : Call) → call ≡ Look → IsSome (entry_of m.repository.revisions call) → ⊥
 look_writes m call l some = no_entry (entry_of m.repository.revisions call) (entry_of m.repository.revisions Look) (ap (entry_of m.repository.revisions) l) refl some
 
--- the mirror after an accepted call
-made_by : (r : Repository) (e : Option Entry) → (option_map_or (with_entry_in r) e r).revisions ≡ option_map_or (with_entry r.revisions) e r.revisions
-made_by r None = refl
-made_by r (Some e) = refl
-
 mirror_as : (x y : List Revision) (h : Option ℕ) → x ≡ y → ◌≡◌ {A = Mirror} (record { revisions = x; holder = h }) (record { revisions = y; holder = h })
 mirror_as x y h e = ap (λ z. record { revisions = z; holder = h }) e
 
 pub after_accepted : (m new : MirrorNow) (seat : ℕ) (call : Call) (r : Given) → IsAccepted m seat call r new → mirror_in new ≡ accepted (mirror_in m) seat call
 after_accepted m new seat call r a =
-    ap mirror_in a.mirror ∙ mirror_as (repository_by m.repository call).revisions (revisions_by m.repository.revisions call) (holder_after m.holder seat call) (made_by m.repository (entry_of m.repository.revisions call))
+    ap mirror_in a.mirror ∙ mirror_as (repository_by m.repository call).revisions (revisions_by m.repository.revisions call) (holder_after m.holder seat call) (revisions_in m.repository (entry_of m.repository.revisions call))
 
 -- others
 

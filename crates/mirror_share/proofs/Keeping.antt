@@ -1,5 +1,5 @@
 -- What a step leaves of a mirror whose holder is counted.
-use Rattle.std.proofs.Common.{◌≡◌, ◌≢◌, ◌⊎◌, inl, inr, ◌<◌, ◌≤◌, ◌+◌, ℕ, Bool, true, false, List, [], ◌∷◌, ◌++◌, length, Option, Some, None, is_some, Result, Ok, Err, refl, sym, ap, subst, ◌∙◌, arith}
+use Rattle.std.proofs.Common.{◌≡◌, ◌≢◌, ◌<◌, ◌≤◌, ◌+◌, ℕ, Bool, true, false, List, [], ◌∷◌, ◌++◌, length, Option, Some, None, is_some, Result, Ok, Err, refl, sym, ap, subst, ◌∙◌, arith}
 use Rattle.std.specs.Prelude.{IfOk, ◌==◌, is_none}
 use Rattle.std.proofs.lemmas.Bool.Decides.{nat_tests}
 use Rattle.std.specs.Option.{option_map_or}
@@ -34,8 +34,8 @@ use Rattle.sync_job.specs.Mirrors.{MirrorNow, mirror_in, Accepted, Doubted, Unch
 use Rattle.mirror_share.specs.Holding.{IsServed, job_after}
 use Rattle.mirror_share.specs.Steps.{StepsShown, Shown, Hides, Stuck}
 use Rattle.mirror_share.proofs.Holders.{after_accepted, others-leave-it, holder-is-served}
-use Rattle.mirror_share.specs.Books.{IsBookKept, IsCounted, IsLocked}
-use Rattle.mirror_share.specs.Counts.{Counts, KnowsCounts, TellsCounts, count_of, counts_of, holder_count}
+use Rattle.mirror_share.specs.Books.{IsCounted, IsLocked}
+use Rattle.mirror_share.specs.Counts.{Counts, KnowsCounts, TellsCounts, counts_of, holder_count}
 use Rattle.mirror_share.proofs.Counting.{same_numbers, same_counts}
 
 abbrev pub IsSized : List Revision → Type 0
@@ -46,31 +46,6 @@ pub unstuck : (before after : Bool) (m new : MirrorNow) (seat : ℕ) (call : Cal
 unstuck before after m new seat call result (Shown b a s) works = b
 unstuck before after m new seat call result (Hides b a is i) works = b
 unstuck before after m new seat call result (Stuck b a is same) works = let n : true ≡ false = sym a ∙ works in absurd (cc)
-
--- the holder after a call of a seat that holds the lock, or of one where nobody does
-
-after_own : (h : Option ℕ) (seat : ℕ) (call : Call) → (h ≡ Some seat) ⊎ (h ≡ None) → (holder_after h seat call ≡ Some seat) ⊎ (holder_after h seat call ≡ None)
-after_own h seat (Init url uuid props) e = e
-after_own h seat (TakeLock token) e = inl refl
-after_own h seat (StealLock token) e = inl refl
-after_own h seat ReleaseLock e = inr refl
-after_own h seat (SetCopying n) e = e
-after_own h seat (Commit n set props) e = e
-after_own h seat (PutProps n props) e = e
-after_own h seat (SetMerged n) e = e
-after_own h seat ClearCopying e = e
-after_own h seat Look e = e
-
-abbrev IsOwn : ℕ → Option ℕ → Type 0
-IsOwn seat h = (h ≡ Some seat) ⊎ (h ≡ None)
-
-pub own_holder : (before after : Bool) (m new : MirrorNow) (seat : ℕ) (call : Call) (result : Result Given SyncFault) → (m.holder ≡ Some seat) ⊎ (m.holder ≡ None) → StepsShown before m seat call result after new
-    → (new.holder ≡ Some seat) ⊎ (new.holder ≡ None)
-own_holder before after m new seat call result own (Shown b a (Accepted r is x)) = subst (IsOwn seat) (sym (ap (λ n. n.holder) x.mirror)) (after_own m.holder seat call own)
-own_holder before after m new seat call result own (Shown b a (Doubted is d)) = subst (IsOwn seat) (sym (ap (λ n. n.holder) d.mirror)) own
-own_holder before after m new seat call result own (Shown b a (Unchanged f is why same)) = subst (IsOwn seat) (sym (ap (λ n. n.holder) same)) own
-own_holder before after m new seat call result own (Hides b a is i) = subst (IsOwn seat) (sym (ap (λ n. n.holder) i.mirror)) own
-own_holder before after m new seat call result own (Stuck b a is same) = subst (IsOwn seat) (sym (ap (λ n. n.holder) same)) own
 
 -- a seat that holds goes on holding behind all but an accepted release
 
@@ -95,14 +70,6 @@ holds_on before after m new seat call result goes own (Shown b a (Doubted is d))
 holds_on before after m new seat call result goes own (Shown b a (Unchanged f is why same)) = subst (Holds seat) (sym (ap (λ n. n.holder) same)) own
 holds_on before after m new seat call result goes own (Hides b a is i) = subst (Holds seat) (sym (ap (λ n. n.holder) i.mirror)) own
 holds_on before after m new seat call result goes own (Stuck b a is same) = subst (Holds seat) (sym (ap (λ n. n.holder) same)) own
-
--- a refusal leaves the holder
-pub refused_holder : (before after : Bool) (m new : MirrorNow) (seat : ℕ) (call : Call) (f : SyncFault) → StepsShown before m seat call (Err f) after new → new.holder ≡ m.holder
-refused_holder before after m new seat call f (Shown b a (Accepted r is x)) = let n : ◌≡◌ {A = Result Given SyncFault} (Ok r) (Err f) = sym is in absurd (cc)
-refused_holder before after m new seat call f (Shown b a (Doubted is d)) = ap (λ n. n.holder) d.mirror
-refused_holder before after m new seat call f (Shown b a (Unchanged g is why same)) = ap (λ n. n.holder) same
-refused_holder before after m new seat call f (Hides b a is i) = ap (λ n. n.holder) i.mirror
-refused_holder before after m new seat call f (Stuck b a is same) = ap (λ n. n.holder) same
 
 -- the lock that a seat takes is its own
 abbrev pub TookLock : ℕ → Call → MirrorNow → Result Given SyncFault → Type 0
@@ -244,29 +211,6 @@ pub beside_held : (before after : Bool) (m new : MirrorNow) (seat : ℕ) (call :
     → StepsShown before m seat call result after new → mirror_in new ≡ mirror_in m
 beside_held before after m new seat call result s l a b step = let k = other_holds m.holder seat a b in beside before after m new seat k.0 call result s l k.1 k.2 step
 
--- the holder, where a seat doesn't hold and nobody else does
-pub own_or_none : (h : Option ℕ) (seat : ℕ) → (h ≡ Some seat) ⊎ (h ≡ None) → holds h seat ≡ false → h ≡ None
-own_or_none None seat own b = refl
-own_or_none (Some k) seat (inl e) b = let j : k ≡ seat = cc in let n : (k == seat) ≡ true = grind (arith, nat_tests) in absurd (cc)
-own_or_none (Some k) seat (inr e) b = absurd (cc)
-
-pub held_is : (h : Option ℕ) (seat : ℕ) → holds h seat ≡ true → h ≡ Some seat
-held_is None seat b = absurd (cc)
-held_is (Some k) seat b = let j : k ≡ seat = grind (arith, nat_tests) in ap Some j
-
--- so the counts stay
-pub counted_beside : (before after : Bool) (m new : MirrorNow) (seat : ℕ) (call : Call) (result : Result Given SyncFault) (k : Counts) (held : ℕ) → mirror_in new ≡ mirror_in m → StepsShown before m seat call result after new
-    → IsCounted before m.repository.revisions m.holder k held → IsCounted after new.repository.revisions new.holder k held
-counted_beside before after m new seat call result k held same step c = record {
-  merged = λ works. c.merged (was works) ∙ ap (λ (x : Mirror). count_of (standing_of x.revisions).merged) (sym same);
-  copying = λ works. c.copying (was works) ∙ ap (λ (x : Mirror). count_of (standing_of x.revisions).copying) (sym same);
-  head = λ works. c.head (was works) ∙ ap (λ (x : Mirror). (standing_of x.revisions).head) (sym same);
-  holder = c.holder ∙ ap (λ (x : Mirror). holder_count x.holder) (sym same);
-}
-  where
-    was : after ≡ false → before ≡ false
-    was works = unstuck before after m new seat call result step works
-
 -- the holder by its count
 pub holder_by : (h : Option ℕ) (seat held : ℕ) → held ≡ holder_count h → held ≡ seat + 1 → h ≡ Some seat
 holder_by None seat held a b = absurd (omega (arith, a, b))
@@ -330,7 +274,7 @@ served before after m new seat job call result k held s l c holder knows lawful 
 
 -- a job whose call is refused knows what it knew
 
-begun_not : {A : Type 0} (job : Job) → job.stage ≡ Locked → job.stage ≡ Begun → A
+pub begun_not : {A : Type 0} (job : Job) → job.stage ≡ Locked → job.stage ≡ Begun → A
 begun_not job l b = let f : Locked ≡ Begun = sym l ∙ b in absurd (cc)
 
 still_knows : (job : Job) (call : Call) (k : Counts) → KnowsCounts job k → Lawful job call → call ≢ ReleaseLock → KnowsCounts (refused_to job call) k
@@ -360,8 +304,3 @@ goes_on before after m new seat job call result k k2 held held2 s l c c2 same ho
     subst (λ r. KnowsCounts (job_after job call r) k2) (sym is) (subst (KnowsCounts (refused_to job call)) (sym (same a)) (still_knows job call k knows lawful goes))
 goes_on before after m new seat job call result k k2 held held2 s l c c2 same holder knows lawful goes (Stuck b a is x) =
     subst (λ r. KnowsCounts (job_after job call r) k2) (sym is) (subst (KnowsCounts (refused_to job call)) (sym (same a)) (still_knows job call k knows lawful goes))
-
--- a book that stays as it is keeps what it kept
-pub kept_alike : (before after : Bool) (m new : MirrorNow) (k : Counts) (held : ℕ) (has : Bool) → new ≡ m → after ≡ before → IsBookKept before m.repository.revisions m.holder k held has → IsBookKept after new.repository.revisions new.holder k held has
-kept_alike before after m new k held has same stuck kept =
-    subst (λ (n : MirrorNow). IsBookKept after n.repository.revisions n.holder k held has) (sym same) (subst (λ b. IsBookKept b m.repository.revisions m.holder k held has) (sym stuck) kept)

@@ -15,7 +15,7 @@ use Rattle.repo_core.specs.declared.entry.Entry.{Entry}
 use Rattle.repo_core.specs.declared.fault.RepoFault.{RepoFault}
 use Rattle.repo_core.specs.declared.fault.RepoFault.TheVariants as repo
 use Rattle.sync_core.specs.Names.{copying_name, lock_name, merged_name, is_absent, is_number, precedes, reaches}
-use Rattle.sync_core.specs.Mirror.{Mirror, Call, Init, TakeLock, StealLock, ReleaseLock, SetCopying, Commit, PutProps, SetMerged, ClearCopying, Look, Refusal, OfRepository, refusal, unmet, holds, standing_of, entry_of, first_map, mirror_with}
+use Rattle.sync_core.specs.Mirror.{Mirror, Call, Init, TakeLock, StealLock, ReleaseLock, SetCopying, Commit, PutProps, SetMerged, ClearCopying, Look, Refusal, OfRepository, refusal, unmet, holds, standing_of, entry_of, first_map}
 use Rattle.sync_core.specs.Mirror as mirror
 use Rattle.sync_core.specs.Plain.{AnswersErr, IsRefused, IsTold}
 use Rattle.sync_core.specs.Plans.{IsPlanned}
@@ -28,12 +28,12 @@ use Rattle.sync_core.specs.declared.fault.SyncFault.TheVariants as fault
 use Rattle.sync_core.specs.declared.reply.Reply.{Reply as Given}
 use Rattle.sync_core.specs.declared.standing.Standing.{Standing}
 use Rattle.sync_job.specs.Kept.{IsWrite}
-use Rattle.sync_job.specs.Mirrors.{MirrorNow, mirror_in, IsDue, ByTable, IsCause, Due, Broken, Accepted, Doubted, Unchanged}
+use Rattle.sync_job.specs.Mirrors.{MirrorNow, mirror_in, ByTable, IsCause, Due, Broken, Accepted, Doubted, Unchanged}
 use Rattle.sync_job.specs.Mirrors as cause
 use Rattle.store_share.proofs.Showing.{some_is}
 use Rattle.mirror_share.specs.Refused.{MayMiss, MayForbid, IsRefusalOf, Missed, Forbidden, NoMemory, NoRoom, DeviceFails, Failed}
 use Rattle.mirror_share.specs.Steps.{StepsShown, Shown, Hides, Stuck}
-use Rattle.mirror_share.proofs.Stepping.{refused_why}
+use Rattle.sync_job.proofs.Stores.{refused_why}
 
 one : {F : Type 0} (a : Bool) (x n : F) → first_of (fault_if a x ∷ []) ≡ Some n → n ≡ x
 one true x n e = sym (some_is x n e)

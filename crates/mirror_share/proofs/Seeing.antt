@@ -15,9 +15,8 @@ use Rattle.sync_core.proofs.Kept.{no_need}
 use Rattle.sync_core.proofs.Table.{meets}
 use Rattle.sync_core.specs.declared.fault.SyncFault.{SyncFault}
 use Rattle.sync_core.specs.declared.reply.Reply.{Reply as Given}
-use Rattle.sync_core.specs.declared.reply.Reply.TheVariants as given
 use Rattle.sync_job.specs.Mirrors.{MirrorNow, mirror_in, IsAccepted, Accepted, Doubted, Unchanged}
-use Rattle.mirror_share.specs.Seen.{HasSeenCommit, HasSeenHead}
+use Rattle.mirror_share.specs.Seen.{HasSeenCommit}
 use Rattle.mirror_share.specs.Steps.{StepsShown, Shown, Hides, Stuck}
 
 -- a call that is taken is accepted, and no cell refused its box
@@ -62,24 +61,3 @@ commit_seen before after old new seat (PutProps n props) reply head seen known s
 commit_seen before after old new seat (SetMerged n) reply head seen known some sets step newest le knows = tt
 commit_seen before after old new seat ClearCopying reply head seen known some sets step newest le knows = tt
 commit_seen before after old new seat Look reply head seen known some sets step newest le knows = tt
-
-seen_by_look : (old new : MirrorNow) (seat : ℕ) (call : Call) (reply : Given) (head seen : ℕ) → 0 < length old.repository.revisions → IsAccepted old seat call reply new
-    → head + 1 ≡ length new.repository.revisions → head ≤ seen → HasSeenHead reply seen
-seen_by_look old new seat call given.Done head seen some a newest le = tt
-seen_by_look old new seat Look (given.Seen s) head seen some a newest le =
-    let told : s ≡ standing_of old.repository.revisions = let e = a.reply in cc in
-    let same = ap (λ m. length m.repository.revisions) a.mirror in omega (arith, ap (λ r. r.head) told, same, newest, le, some)
-seen_by_look old new seat (Init url uuid props) (given.Seen s) head seen some a newest le = let e = a.reply in absurd (cc)
-seen_by_look old new seat (TakeLock token) (given.Seen s) head seen some a newest le = let e = a.reply in absurd (cc)
-seen_by_look old new seat (StealLock token) (given.Seen s) head seen some a newest le = let e = a.reply in absurd (cc)
-seen_by_look old new seat ReleaseLock (given.Seen s) head seen some a newest le = let e = a.reply in absurd (cc)
-seen_by_look old new seat (SetCopying n) (given.Seen s) head seen some a newest le = let e = a.reply in absurd (cc)
-seen_by_look old new seat (Commit n set props) (given.Seen s) head seen some a newest le = let e = a.reply in absurd (cc)
-seen_by_look old new seat (PutProps n props) (given.Seen s) head seen some a newest le = let e = a.reply in absurd (cc)
-seen_by_look old new seat (SetMerged n) (given.Seen s) head seen some a newest le = let e = a.reply in absurd (cc)
-seen_by_look old new seat ClearCopying (given.Seen s) head seen some a newest le = let e = a.reply in absurd (cc)
-
-pub head_seen : (before after : Bool) (old new : MirrorNow) (seat : ℕ) (call : Call) (reply : Given) (head seen : ℕ) → 0 < length old.repository.revisions
-    → StepsShown before old seat call (Ok reply) after new → (after ≡ false → head + 1 ≡ length new.repository.revisions) → head ≤ seen → HasSeenHead reply seen
-head_seen before after old new seat call reply head seen some step newest le =
-    let a = taken before after old new seat call (Ok reply) step in seen_by_look old new seat call reply head seen some a.1 (newest a.0) le

@@ -32,14 +32,12 @@ use Rattle.mirror_share.specs.Carried.{IsCarried}
 use Rattle.mirror_share.specs.Counts.{Counts, KnowsCounts, TellsCounts, counts_of}
 use Rattle.mirror_share.specs.Refused.{IsRefusalOf, MayForbid, MayMiss, Missed, Forbidden, NoMemory, NoRoom, DeviceFails, Failed}
 use Rattle.mirror_share.specs.Served.{Happening, Called, Spoke, said_as, IsAllowed, IsNoCall, AreCalls, AreServed, SyncIsServed, CopyIsServed}
+use Rattle.mirror_share.proofs.Keeping.{begun_not}
 
 -- a job with its lock has the hand at its seat and knows what is counted; one that has not begun has seen nothing
 record Has (job : Job) (hand : Option Counts) : Type 0 where
   fresh : job.stage ≡ Begun → job.merged ≡ Absent
   held : job.stage ≡ Locked → MatchOption hand ⊥ (λ k. KnowsCounts job k)
-
-begun_not : {A : Type 0} (job : Job) → job.stage ≡ Locked → job.stage ≡ Begun → A
-begun_not job l b = let f : Locked ≡ Begun = sym l ∙ b in absurd (cc)
 
 has_over : (job : Job) (hand : Option Counts) → job.stage ≡ Over → Has job hand
 has_over job hand o = record {
@@ -139,11 +137,6 @@ hears_refusal : (job : Job) (call : Call) (f : SyncFault) (a : Answer) → IsHea
 hears_refusal job call f a (inl e) = ap (λ x. hears_call job call x) e
 hears_refusal job call f a (inr (inl e)) = ap (λ x. hears_call job call x) e.0
 hears_refusal job call f a (inr (inr e)) = ap (λ x. hears_call job call x) e.0
-
-hears_write : (job : Job) (call : Call) (result : Result Given SyncFault) (a : Answer) → IsWrite call → IfOk result (IsFit call) → IsHeard result a → hears_call job call a ≡ job_after job call result
-hears_write job call (Ok given.Done) a w fit e = ap (λ x. hears_call job call x) e
-hears_write job call (Ok (given.Seen s)) a w fit e = absurd (not_both call w fit)
-hears_write job call (Err f) a w fit e = hears_refusal job call f a e
 
 -- a job that ends: its first call wasn't for the lock, or it was the release
 

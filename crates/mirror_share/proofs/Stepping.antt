@@ -29,13 +29,11 @@ use Rattle.store_share.specs.Changes.{IsAccepted as IsTakenIn, IsLeft, IsBrokenO
 use Rattle.store_share.specs.declared.book.MasterBook.{MasterBook}
 use Rattle.store_share.proofs.Showing.{revision_as}
 use Rattle.sync_core.specs.Faults.{of_repository}
-use Rattle.sync_core.specs.Mirror.{Mirror, Call, Init, TakeLock, StealLock, ReleaseLock, SetCopying, Commit, PutProps, SetMerged, ClearCopying, Look, Refusal, OfRepository, Refused, refusal, standing_of, entry_of, granted, holder_after}
+use Rattle.sync_core.specs.Mirror.{Mirror, Call, Init, TakeLock, StealLock, ReleaseLock, SetCopying, Commit, PutProps, SetMerged, ClearCopying, Look, OfRepository, refusal, standing_of, entry_of, granted, holder_after}
 use Rattle.sync_core.specs.Mirror as mirror_reply
 use Rattle.sync_core.specs.Copies.{call_in}
-use Rattle.sync_core.specs.Plain.{IsRefused, AnswersErr}
-use Rattle.sync_core.specs.Plans.{IsToWrite, IsPlanned}
-use Rattle.sync_core.specs.declared.planning.Planned.{Planned}
-use Rattle.sync_core.specs.declared.planning.Planned.TheVariants.{Tell}
+use Rattle.sync_core.specs.Plain.{AnswersErr}
+use Rattle.sync_core.specs.Plans.{IsToWrite}
 use Rattle.sync_core.specs.declared.kept_call.KeptCall.{KeptCall}
 use Rattle.sync_core.specs.declared.fault.SyncFault.{SyncFault}
 use Rattle.sync_core.specs.declared.fault.SyncFault.TheVariants as fault
@@ -44,6 +42,7 @@ use Rattle.sync_core.specs.declared.standing.Standing.{Standing}
 use Rattle.sync_job.specs.Fronts.{replayed}
 use Rattle.sync_job.specs.Mirrors.{MirrorNow, mirror_in, repository_by, ByTable, IsCause, Due, NoMemory, NoRoom, Broken, Accepted, Doubted, Unchanged}
 use Rattle.sync_job.specs.StoreFaults.{fault_of}
+use Rattle.sync_job.proofs.Stores.{answer_cause}
 use Rattle.mirror_share.specs.Steps.{now_at, KeepsNow, StepsShown, Shown, Hides}
 
 -- a store's entry in doubt tells whether its device failed
@@ -179,48 +178,9 @@ must_hide entry due old new x (inr (inr h)) works stuck = h
 pub no_memory : (m : MirrorNow) (seat : ℕ) (call : Call) (f : SyncFault) → f ≡ fault.OutOfMemory → StepsShown false m seat call (Err f) false m
 no_memory m seat call f e = Shown refl refl (Unchanged f refl (NoMemory e) refl)
 
--- no accepted call is answered by a refusal
-not_granted : (m : Mirror) (call : Call) (why : Refusal) → Refused why ≡ granted m call → ⊥
-not_granted m (Commit n set props) why h = cc
-not_granted m (Init url uuid props) why h = cc
-not_granted m (TakeLock t) why h = cc
-not_granted m (StealLock t) why h = cc
-not_granted m ReleaseLock why h = cc
-not_granted m (SetCopying n) why h = cc
-not_granted m (PutProps n props) why h = cc
-not_granted m (SetMerged n) why h = cc
-not_granted m ClearCopying why h = cc
-not_granted m Look why h = cc
-
-pub refused_why : (m : Mirror) (call : Call) (why : Refusal) (o : Option Refusal) → Refused why ≡ option_map_or Refused o (granted m call) → o ≡ Some why
-refused_why m call why None h = absurd (not_granted m call why h)
-refused_why m call why (Some w) h = cc
-
-refused_cause : (m : MirrorNow) (seat : ℕ) (call : Call) (f : SyncFault) → IsRefused (mirror_in m) seat call f (mirror_in m) → IsCause m seat call f
-refused_cause m seat call f r = Due (ByTable r.why (refused_why (mirror_in m) call r.why (refusal (mirror_in m) seat call) r.step.replied) r.told)
-
-answer_cause : (m : MirrorNow) (seat : ℕ) (call : Call) (f : SyncFault) → AnswersErr (mirror_in m) seat call f (mirror_in m) → IsCause m seat call f
-answer_cause m seat call fault.NotInitialised r = refused_cause m seat call fault.NotInitialised r
-answer_cause m seat call fault.AlreadyInitialised r = refused_cause m seat call fault.AlreadyInitialised r
-answer_cause m seat call fault.NotEmpty r = refused_cause m seat call fault.NotEmpty r
-answer_cause m seat call (fault.LockHeld t) r = refused_cause m seat call (fault.LockHeld t) r
-answer_cause m seat call (fault.HolderRunning t) r = refused_cause m seat call (fault.HolderRunning t) r
-answer_cause m seat call fault.WrongMaster r = refused_cause m seat call fault.WrongMaster r
-answer_cause m seat call (fault.Inconsistent a b c) r = refused_cause m seat call (fault.Inconsistent a b c) r
-answer_cause m seat call (fault.NotYetCopied k) r = refused_cause m seat call (fault.NotYetCopied k) r
-answer_cause m seat call fault.NotHolder r = refused_cause m seat call fault.NotHolder r
-answer_cause m seat call (fault.MasterFailed t) r = refused_cause m seat call (fault.MasterFailed t) r
-answer_cause m seat call fault.OutOfTurn r = refused_cause m seat call fault.OutOfTurn r
-answer_cause m seat call (fault.Other x) r = refused_cause m seat call (fault.Other x) r
-answer_cause m seat call fault.OutOfMemory r = NoMemory refl
-
 -- a call isn't planned
 pub refused_step : (m : MirrorNow) (seat : ℕ) (call : Call) (f : SyncFault) → AnswersErr (mirror_in m) seat call f (mirror_in m) → StepsShown false m seat call (Err f) false m
 refused_step m seat call f r = Shown refl refl (Unchanged f refl (answer_cause m seat call f r) refl)
-
--- what is planned of a look
-pub look_told : (m : Mirror) (seat : ℕ) (call : Call) (p : Planned) (s : Standing) → p ≡ Tell s → IsPlanned m seat call p → (call ≡ Look) × (s ≡ standing_of m.revisions)
-look_told m seat call p s e h = subst (λ y. IsPlanned m seat call y) e h
 
 -- a look is answered
 pub seen_step : (m : MirrorNow) (seat : ℕ) (call : Call) (s : Standing) → (call ≡ Look) × (s ≡ standing_of m.repository.revisions) → StepsShown false m seat call (Ok (given.Seen s)) false m

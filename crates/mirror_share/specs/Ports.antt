@@ -2,7 +2,7 @@
 use Rattle.std.specs.Prelude.{◌≡◌, List, [], ◌∷◌, ◌++◌, Option, Result, IfErr, IfOk, OnOk}
 use Rattle.std.specs.List.{AllByRecursion}
 use Rattle.node_base.specs.Tree.{PathMap}
-use Rattle.store_share.specs.Seats.{known_by, seen_by}
+use Rattle.store_share.specs.Seats.{known_by, seen_by, KeepsSeen, SeesOn}
 use Rattle.store_share.specs.declared.seat.ReaderSeat.{ReaderSeat}
 use Rattle.sync_core.specs.Mirror.{Call}
 use Rattle.sync_core.specs.declared.fault.SyncFault.{SyncFault}
@@ -16,7 +16,7 @@ use Rattle.mirror_share.specs.Carried.{IsCarried}
 use Rattle.mirror_share.specs.Counts.{Counts}
 use Rattle.mirror_share.specs.Locked.{IsStepOf}
 use Rattle.mirror_share.specs.Refused.{IsRefusalOf}
-use Rattle.mirror_share.specs.Seats.{hand_of, place_of}
+use Rattle.mirror_share.specs.Seats.{hand_of, place_of, CarriesHand}
 use Rattle.mirror_share.specs.Seen.{HasSeenCommit, HasSeenHead}
 
 -- of no mirror it is known that it stands there: others may call it between the calls of the job
@@ -43,6 +43,17 @@ share_of port = port.share.now
 pub record IsSeenBy {L : Type 0} {r : _} (reader : ReaderSeat L r) (call : Call) (result : Result Given SyncFault) : Type 0 where
   pub commit : OnOk result (HasSeenCommit call (known_by reader) (seen_by reader))
   pub head : IfOk result (λ x. HasSeenHead x (seen_by reader))
+
+-- one call of a port: a step of the share's book from its seat's place, which the seat carries through; what was done in it the reader
+-- has seen, and it knows what it knew; and what the call may be refused for
+pub record IsCallAt {R L D : Type 0} {r : _} {g : _} (old new : SeatMirror R L D r g) (call : Call) (result : Result Given SyncFault) : Type 0 where
+  pub refused : IfErr result (IsRefusalOf call)
+  pub stepped : IsStepOf (share_of old) (place_of (seat_of old)) call result
+  pub carried : CarriesHand (seat_of old) (seat_of new) call result
+  pub done : IsSeenBy (reader_of new) call result
+  pub later : SeesOn (reader_of old) (reader_of new)
+  pub kept : KeepsSeen (reader_of old) (reader_of new)
+  pub share : share_of new ≡ share_of old
 
 -- a seat's calls one after another, each as a step says of one: from what its hand counted before them to what it counts behind them
 abbrev pub AreCarried : Option Counts → List Asked → Option Counts → Type 0

@@ -1,14 +1,11 @@
 //! A shared mirror as the port of a job.
-ghost use Rattle.std.specs.Prelude.{◌≡◌, ◌↔◌, ◌++◌, ◌∷◌, [], length, None, Some, IfOk, IfErr};
-ghost use Rattle.std.specs.Prelude.{IfSome, OnOk};
+ghost use Rattle.std.specs.Prelude.{◌≡◌, ◌↔◌, ◌++◌, ◌∷◌, [], length, None, Some, IfOk, IfErr, IfSome};
 ghost use Rattle.std.specs.Option.{option_map};
 ghost use Rattle.store_share.specs.Seats.{known_by, seen_by, KeepsSeen, SeesOn};
 ghost use Rattle.sync_core.specs.Calls.{call_of};
 ghost use Rattle.sync_job.specs.Asked.{asked_as};
 ghost use Rattle.sync_job.specs.Mirrors.{GivesTree, IsFit, LacksTree, Moves, Stays};
 ghost use Rattle.sync_job.specs.Telling.{IsTreeFault};
-ghost use Rattle.mirror_share.specs.Refused.{IsRefusalOf};
-ghost use Rattle.mirror_share.specs.Seen.{HasSeenCall, HasSeenHead};
 
 use crate::name::MirrorName;
 use crate::seat::JobSeat;
@@ -75,10 +72,9 @@ impl<'a, R: Wait, L: MirrorName, D: Disk> SeatMirror<'a, R, L, D> {
 }
 
 impl<R: Wait, L: MirrorName, D: Disk> MirrorPort for SeatMirror<'_, R, L, D> {
-    ghost use Rattle.mirror_share.specs.Locked.{IsStepOf};
-    ghost use Rattle.mirror_share.specs.Ports.{reader_of, seat_of, share_of, IsAsked, IsUnasked, NowhereStands};
+    ghost use Rattle.mirror_share.specs.Ports.{reader_of, seat_of, IsAsked, IsCallAt, IsUnasked, NowhereStands};
     ghost use Rattle.mirror_share.specs.Ports.{OfNowhere, OfUntold, TellsNothing, WasAsked};
-    ghost use Rattle.mirror_share.specs.Seats.{place_of, CarriesHand};
+    ghost use Rattle.mirror_share.specs.Seats.{place_of};
 
     ghost stands = { λ _ m. NowhereStands m };
 
@@ -108,15 +104,8 @@ impl<R: Wait, L: MirrorName, D: Disk> MirrorPort for SeatMirror<'_, R, L, D> {
         call: &MirrorCall<'_>,
         _tree: Option<Tree>,
     ) -> Result<Reply, SyncFault>
+        ensures called { IsCallAt self.old self.new (call_of call.now) result }
         ensures fits { IfOk result (IsFit (call_of call.now)) }
-        ensures refused { IfErr result (IsRefusalOf (call_of call.now)) }
-        ensures stepped { IsStepOf (share_of self.old) (place_of (seat_of self.old)) (call_of call.now) result }
-        ensures carried { CarriesHand (seat_of self.old) (seat_of self.new) (call_of call.now) result }
-        ensures commit { OnOk result (HasSeenCall (reader_of self.new) (call_of call.now)) }
-        ensures head { IfOk result (λ r. HasSeenHead r (seen_by (reader_of self.new))) }
-        ensures seen { SeesOn (reader_of self.old) (reader_of self.new) }
-        ensures kept { KeepsSeen (reader_of self.old) (reader_of self.new) }
-        ensures share { share_of self.new ≡ share_of self.old }
         ensures seat { place_of (seat_of self.new) ≡ place_of (seat_of self.old) }
         ensures honest { ⊥ ↔ ⊥ }
         ensures moves { OfNowhere (λ m. Moves NowhereStands (λ _. 0) (λ _ _ _. ⊥) ⊥ self.old self.new m
