@@ -1,26 +1,21 @@
 -- Why no repository is begun or opened, by the fault of a folder and by that of a store, and what is left then.
 use Rattle.std.proofs.Common.{◌≡◌, ◌≢◌, ◌≤◌, ◌↔◌, ◌⊎◌, ◌∙◌, ℕ, List, [], ap, inl, inr, refl, sym, subst, arith}
-use Rattle.fleet_disk.specs.Image.{Image, no_bytes}
-use Rattle.fleet_disk.specs.Rules.{LeavesOnly, Only, Rose}
+use Rattle.fleet_disk.specs.Image.{no_bytes}
+use Rattle.fleet_disk.specs.Rules.{Rose}
 use Rattle.fleet_disk.specs.declared.disk.Disk.{Ghosts}
-use Rattle.gate_log.specs.Looks.{Looks}
-use Rattle.gate_log.specs.Log.{version_of}
-use Rattle.gate_log.specs.Standing.{HasNoEntry, IsBlank, IsEither, StandsAlike}
-use Rattle.gate_log.specs.Version.{HaveOneVersion, IsOf}
-use Rattle.gate_log.specs.declared.version.LogVersion.TheVariants.{Second}
+use Rattle.gate_log.specs.Standing.{HasNoEntry}
 use Rattle.gate_log.specs.declared.fault.LogFault.TheVariants as log
 use Rattle.node_base.specs.declared.refusal.Refusal.{Refusal}
 use Rattle.node_base.specs.declared.refusal.Refusal.TheVariants as refusal
-use Rattle.repo_core.specs.Repository.{fresh}
-use Rattle.repo_store.specs.Journal.{beginning_of, IsDamaged, Keeps, KeepsAlike, ReopensTo}
+use Rattle.repo_store.specs.Journal.{IsDamaged, Keeps}
+use Rattle.repo_store.specs.Openings.{IsCreated, IsOpened as IsStored, NotCreated, NotOpened as NotStored}
 use Rattle.repo_store.specs.Refusals.{log_refusal, store_refusal, IsCreateFault, IsOpenFault}
-use Rattle.repo_store.specs.Words.{disk_of, identity_of, log_of, repository_of, revisions_of, HasFailed}
 use Rattle.repo_store.specs.declared.fault.StoreFault.{StoreFault}
 use Rattle.repo_store.specs.declared.fault.StoreFault.TheVariants.{Repo, Log}
 use Rattle.repo_store.specs.declared.store.RepoStore.{RepoStore}
-use Rattle.fleet_main.specs.Doing.{IsBegunOn, IsKept, IsOpenedOn}
+use Rattle.fleet_main.specs.Doing.{IsBegunOn, IsOpenedOn}
 use Rattle.fleet_main.specs.Loans.{AreBack, IsLent, Loan, TakesBack, only_of}
-use Rattle.fleet_main.specs.Opening.{IsUnbegun, IsUnopened, NotBegun, NotBegunIn, NotOpened, NotOpenedIn, WhyUnbegun, WhyUnopened, folder_refusal}
+use Rattle.fleet_main.specs.Opening.{IsUnbegun, IsUnopened, NotBegunIn, NotOpened, NotOpenedIn, WhyUnbegun, WhyUnopened, folder_refusal}
 use Rattle.fleet_main.specs.Opening.{begin_fails, begin_no_memory, there_already, host_fails, host_no_memory, not_on, open_fails, open_no_memory, no_entry, damaged, nameless, no_disk, no_memory, unopened}
 use Rattle.fleet_main.specs.declared.lending.Folders.{Ghosts as FolderGhosts}
 use Rattle.fleet_disk.specs.declared.folder_fault.FolderFault.{FolderFault}
@@ -35,15 +30,12 @@ why_unbegun G honest given back (Log f) e is rules (inl h) device memory there =
 why_unbegun G honest given back (Log f) e is rules (inr (inl h)) device memory there = there_already (is ∙ ap log_refusal h) (λ o. there (rules o) (ap Log h))
 why_unbegun G honest given back (Log f) e is rules (inr (inr h)) device memory there = begin_no_memory (is ∙ ap log_refusal h) (memory (ap Log h))
 
-pub unbegun : {D : Type 0} (G : Ghosts D) (honest : Type 0) (identity : List ℕ) (given back : D) (f : StoreFault) (e : Refusal) → e ≡ store_refusal f → (honest → G.honest given) → IsCreateFault f
-    → (f ≡ Log log.DeviceFailed → Rose (G.failures given) (G.failures back)) → (f ≡ Log log.OutOfMemory → back ≡ given) → (G.honest given → f ≡ Log log.ThereAlready → G.reads given ≢ no_bytes)
-    → (G.honest given → G.reads given ≢ no_bytes → Looks G given back)
-    → (G.honest given → Only no_bytes (G.may_leave given) → LeavesOnly G.clock G.left_since given back (λ image. IsBlank image ⊎ IsEither [] (beginning_of identity) image))
+pub unbegun : {D : Type 0} (G : Ghosts D) (honest : Type 0) (identity : List ℕ) (given back : D) (f : StoreFault) (e : Refusal) → e ≡ store_refusal f → (honest → G.honest given) → NotCreated G identity given (f, back)
     → IsUnbegun G honest identity given back e
-unbegun G honest identity given back f e is rules no_other device memory there looks moment = record {
-  why = why_unbegun G honest given back f e is rules no_other device memory there;
-  stays = λ h. looks (rules h);
-  any_moment = λ h. moment (rules h);
+unbegun G honest identity given back f e is rules left = record {
+  why = why_unbegun G honest given back f e is rules left.no_other left.device left.memory left.there;
+  stays = λ h. left.looks (rules h);
+  any_moment = λ h. left.any_moment (rules h);
 }
 
 -- by the fault of an opening
@@ -63,46 +55,36 @@ unless_failed : (f : StoreFault) (e : Refusal) (P : Type 0) → e ≡ store_refu
 unless_failed f e P is (inl h) other = absurd (other (is ∙ ap store_refusal h))
 unless_failed f e P is (inr p) other = p
 
-pub is_unopened : {D : Type 0} (G : Ghosts D) (honest : Type 0) (given back : D) (f : StoreFault) (e : Refusal) → e ≡ store_refusal f → (honest → G.honest given) → IsOpenFault f
-    → (f ≡ Log log.DeviceFailed → Rose (G.failures given) (G.failures back)) → (G.honest given → (entry : ℕ) → f ≡ Log (log.Damaged entry) → IsDamaged entry (G.reads given))
-    → (G.honest given → f ≡ Log log.NoRepository → HasNoEntry (G.reads given))
-    → (G.honest given → (f ≡ Log log.DeviceFailed) ⊎ ((image : Image) → G.may_leave back image → (image ≡ G.reads given) ⊎ StandsAlike (G.reads given) image))
-    → (G.honest given → LeavesOnly G.clock G.left_since given back (λ image. G.may_leave given image ⊎ KeepsAlike (G.reads given) image))
-    → (G.honest given → LeavesOnly G.clock G.left_since given back (λ image. G.may_leave given image ⊎ HaveOneVersion (G.reads given) image)) → IsUnopened G honest given back e
-is_unopened G honest given back f e is rules no_other device bad missing kept moment stays = record {
-  why = why_unopened G honest given back f e is rules no_other device bad missing;
-  left = λ h other. unless_failed f e _ is (kept (rules h)) other;
-  any_moment = λ h. moment (rules h);
-  version_stays = λ h. stays (rules h);
+pub is_unopened : {D : Type 0} (G : Ghosts D) (honest : Type 0) (given back : D) (f : StoreFault) (e : Refusal) → e ≡ store_refusal f → (honest → G.honest given) → NotStored G given (f, back) → IsUnopened G honest given back e
+is_unopened G honest given back f e is rules left = record {
+  why = why_unopened G honest given back f e is rules left.no_other left.device left.damaged left.missing;
+  left = λ h other. unless_failed f e _ is (left.kept (rules h)) other;
+  any_moment = λ h. left.any_moment (rules h);
+  version_stays = λ h. left.version_stays (rules h);
 }
 
 -- a store that is begun
-pub begun_on : {D : Type 0} (G : Ghosts D) (honest : Type 0) (identity : List ℕ) (given : D) (store : RepoStore D G) → (honest → G.honest given) → (G.honest given → G.reads given ≡ no_bytes) → repository_of store ≡ fresh identity → version_of (log_of store) ≡ Second
-    → (G.honest given ↔ G.honest (disk_of store)) → (G.honest given → (image : Image) → G.may_leave (disk_of store) image → Keeps (fresh identity) image)
-    → (G.honest given → Only no_bytes (G.may_leave given) → LeavesOnly G.clock G.left_since given (disk_of store) (λ image. IsBlank image ⊎ IsEither [] (beginning_of identity) image)) → IsBegunOn G honest identity given store
-begun_on G honest identity given store rules empty made version both durable moment = record {
+pub begun_on : {D : Type 0} (G : Ghosts D) (honest : Type 0) (identity : List ℕ) (given : D) (store : RepoStore D G) → (honest → G.honest given) → IsCreated G identity given store → IsBegunOn G honest identity given store
+begun_on G honest identity given store rules begun = record {
   sound = rules;
-  empty = λ h. empty (rules h);
-  made = made;
-  version = version;
-  kept = λ h. (both.0 (rules h), λ left may. subst (λ r. Keeps r left) (sym made) (durable (rules h) left may));
-  any_moment = λ h. moment (rules h);
+  empty = λ h. begun.empty (rules h);
+  made = begun.made;
+  version = begun.version;
+  kept = λ h. (begun.honest.0 (rules h), λ left may. subst (λ r. Keeps r left) (sym begun.made) (begun.durable (rules h) left may));
+  any_moment = λ h. begun.any_moment (rules h);
 }
 
 -- a store that is opened
-pub opened_on : {D : Type 0} (G : Ghosts D) (honest : Type 0) (given : D) (store : RepoStore D G) → (honest → G.honest given) → (G.honest given → ReopensTo (identity_of store) (revisions_of store) (G.reads given))
-    → (G.honest given → Keeps (repository_of store) (G.reads given)) → ¬ HasFailed store → (G.honest given ↔ G.honest (disk_of store))
-    → (G.honest given → LeavesOnly G.clock G.left_since given (disk_of store) (λ image. G.may_leave given image ⊎ KeepsAlike (G.reads given) image))
-    → (G.honest given → IsOf (version_of (log_of store)) (G.reads given)) → (G.honest given → LeavesOnly G.clock G.left_since given (disk_of store) (λ image. G.may_leave given image ⊎ HaveOneVersion (G.reads given) image)) → IsOpenedOn G honest given store
-opened_on G honest given store rules stands keeps working both moment version stays = record {
-  stands = λ h. stands (rules h);
-  keeps = λ h. keeps (rules h);
+pub opened_on : {D : Type 0} (G : Ghosts D) (honest : Type 0) (given : D) (store : RepoStore D G) → (honest → G.honest given) → IsStored G given store → IsOpenedOn G honest given store
+opened_on G honest given store rules opened = record {
+  stands = λ h. opened.stands (rules h);
+  keeps = λ h. opened.keeps (rules h);
   sound = rules;
-  rules = λ h. both.0 (rules h);
-  working = working;
-  any_moment = λ h. moment (rules h);
-  version = λ h. version (rules h);
-  version_stays = λ h. stays (rules h);
+  rules = λ h. opened.honest.0 (rules h);
+  working = opened.working;
+  any_moment = λ h. opened.any_moment (rules h);
+  version = λ h. opened.version (rules h);
+  version_stays = λ h. opened.version_stays (rules h);
 }
 
 -- a smaller premise

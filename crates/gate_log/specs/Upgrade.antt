@@ -5,6 +5,7 @@ use Rattle.gate_log.specs.declared.fault.LogFault.{LogFault}
 use Rattle.gate_log.specs.declared.fault.LogFault.TheVariants.{DeviceFailed, Damaged, OutOfMemory}
 use Rattle.gate_log.specs.declared.version.LogVersion.TheVariants.{Second}
 use Rattle.gate_log.specs.Slots.{slots}
+use Rattle.gate_log.specs.Standing.{IsAtRest}
 use Rattle.gate_log.specs.Version.{IsBegun}
 
 -- the journal and `gate` as they were, and `slots` not begun
@@ -40,3 +41,8 @@ IsMigrationFault count fault = (fault ≡ DeviceFailed) ⊎ (fault ≡ OutOfMemo
 abbrev pub IsUpgraded : List ℕ → Image → Image → Type 0
 IsUpgraded ends old new = (new.journal ≡ old.journal) × (new.gate ≡ [])
     × (new.slots ≡ slots Second 0 ends old.journal ++ 0 ∷ [])
+
+-- these entries are at rest in the second version, and exactly their bytes are there
+pub record IsMigrated (ends : List ℕ) (old new : Image) : Type 0 where
+  pub at_rest : IsAtRest Second ends new
+  pub files : IsUpgraded ends old new

@@ -1,20 +1,16 @@
 //! The log.
-ghost use Rattle.std.specs.Prelude.{◌≡◌, ◌≢◌, ◌⊎◌, ◌<◌, ◌≤◌, ◌+◌, ◌^◌, ◌++◌, ◌∷◌, ◌↔◌, [], ℕ, false};
-ghost use Rattle.std.specs.Prelude.{length, slice_get, Some, IsTrue, IfOk, IfErr, OnOk, OnErr, IsErrOf};
+ghost use Rattle.std.specs.Prelude.{◌≡◌, ◌<◌, ◌≤◌, ◌+◌, ◌^◌, ◌↔◌, false};
+ghost use Rattle.std.specs.Prelude.{length, slice_get, Some, IsTrue, IfOk, IfErr, OnOk, IsErrOf};
 ghost use Rattle.std.proofs.Props.{props};
 ghost use Rattle.fleet_disk.specs.Image.{no_bytes};
 ghost use Rattle.fleet_disk.specs.Rules.{Only};
-ghost use Rattle.gate_log.specs.Device.{IsFailure, IsSafe, Leaves, LeavesOr, MaySettleAs, SettlesAs};
-ghost use Rattle.gate_log.specs.Faults.{IsAppendFault, IsCreateFault, IsFindFault, IsLogFault, IsReadFault};
-ghost use Rattle.gate_log.specs.Faults.{IsReadingFault, IsReserveFault};
-ghost use Rattle.gate_log.specs.Looks.{Looks};
-ghost use Rattle.gate_log.specs.Standing.{ends_with, IsAdded, IsAtRest, IsBlank, IsCutBack, IsDamagedAt, IsJustBegun, IsRising};
-ghost use Rattle.gate_log.specs.Standing.{IsEither, HasNoEntry, OfEntries, Stands, StandsAlike, StandsAs};
+ghost use Rattle.gate_log.specs.Device.{IsFailure, IsSafe, Leaves};
+ghost use Rattle.gate_log.specs.Faults.{IsLogFault, IsReadingFault, IsReserveFault};
+ghost use Rattle.gate_log.specs.Standing.{IsAtRest, IsBlank, IsEither, IsRising};
 ghost use Rattle.gate_log.specs.StandingLaws.{rising_prop, rest_prop};
-ghost use Rattle.gate_log.specs.Upgrade.{IsMigrationFault, IsUpgraded};
-ghost use Rattle.gate_log.specs.Version.{HaveOneVersion, IsOf};
-ghost use Rattle.gate_log.specs.declared.fault.LogFault.TheVariants.{Damaged, DeviceFailed, Failed, LogFull, NoRepository, OutOfMemory, ThereAlready};
-ghost use Rattle.gate_log.specs.declared.version.LogVersion.TheVariants.{First, Second};
+ghost use Rattle.gate_log.specs.Version.{IsOf};
+ghost use Rattle.gate_log.specs.declared.fault.LogFault.TheVariants.{DeviceFailed, Failed, LogFull, OutOfMemory};
+ghost use Rattle.gate_log.specs.declared.version.LogVersion.TheVariants.{First};
 
 use crate::create::begin;
 use crate::ends::{bounds, end_of};
@@ -65,9 +61,12 @@ impl Receipt {
 }
 
 impl<D: Disk> GateLog<D> {
-    ghost use Rattle.gate_log.specs.Log.{disk_left, disk_of, version_of, ends_of, size_of, entries_of, entry_of, image_of};
-    ghost use Rattle.gate_log.specs.Log.{FailsBy, FailsOf, HasFailed, HasRoom, IsFull, IsHonest, IsUntouched, Lasts, WhileWorking};
-    ghost use Rattle.gate_log.specs.Log.{LeavesAfter, LeavesBetween, LooksIn};
+    ghost use Rattle.gate_log.specs.Calls.{ActsIn, AppendsThrough, HandsOn, IsAppended, IsCreated, IsMadeSecond, IsOpened};
+    ghost use Rattle.gate_log.specs.Calls.{KeepsEntries, NotAppended, NotCreated, NotOpened, StaysFirst};
+    ghost use Rattle.gate_log.specs.Log.{disk_left, disk_of, version_of, ends_of, size_of, entries_of};
+    ghost use Rattle.gate_log.specs.Log.{FailsBy, HasFailed, HasRoom, IsFull, IsHonest, Lasts, LeavesAfter, LooksIn};
+    ghost use Rattle.gate_log.specs.Log.{WhileWorking};
+    ghost use Rattle.gate_log.specs.Recovered.{OpensThrough};
 
     /// Begins a log without entries, of the second version, on a disk of empty files. Until it has answered Ok a stop
     /// leaves no entry and one gate at most, of any value, so that an opening answers NoRepository (34). The first append
@@ -75,22 +74,11 @@ impl<D: Disk> GateLog<D> {
     /// file isn't empty, and DeviceFailed (31). A refusal hands the disk back; one with something on it then is as it
     /// was: a read gives what it gave, and a stop leaves what it could leave, at each moment too.
     pub fn create(alloc: Global, disk: D) -> Result<GateLog<D>, (LogFault, D)>
-        ensures empty { D.honest disk → OnOk result (D.reads disk ≡ no_bytes) }
-        ensures entries { IfOk result (λ log. (ends_of log ≡ []) × ¬ HasFailed log) }
-        ensures files { D.honest disk → IfOk result (λ log. IsJustBegun (image_of log)) }
-        ensures version { IfOk result (λ log. version_of log ≡ Second) }
-        ensures durable { D.honest disk → IfOk result (λ log. LeavesAfter log (λ c. Stands c [])) }
-        ensures there { D.honest disk → IfErr result (λ e. e.0 ≡ ThereAlready → D.reads disk ≢ no_bytes) }
-        ensures looks { D.honest disk → D.reads disk ≢ no_bytes
-            → IfErr result (λ e. Looks D.Disk disk e.1) }
-        ensures device { FailsOf D.Disk disk result }
-        ensures memory { IfErr result (λ e. e.0 ≡ OutOfMemory → e.1 ≡ disk) }
-        ensures room { IfOk result HasRoom }
-        ensures no_other { IfErr result (λ e. IsCreateFault e.0) }
+        ensures begun { IfOk result (IsCreated D.Disk disk) }
+        ensures refused { IfErr result (NotCreated D.Disk disk) }
         ensures any_moment { D.honest disk → Only no_bytes (D.may_leave disk) → Leaves D.Disk disk (disk_left result)
             IsBlank }
-        ensures honest { D.honest disk ↔ D.honest (disk_left result) }
-        ensures later { D.failures disk ≤ D.failures (disk_left result) }
+        ensures acts { HandsOn D.Disk disk result }
     {
         let Ok(ends) = Vec::with_capacity(alloc, 1) else {
             return Err((LogFault::OutOfMemory, disk));
@@ -115,33 +103,10 @@ impl<D: Disk> GateLog<D> {
     /// moment left what it could leave before. At no moment of an opening does a stop leave another version than that of
     /// what a read gave, but for what it could leave before.
     pub fn open(alloc: Global, disk: D) -> Result<GateLog<D>, (LogFault, D)>
-        ensures found { D.honest disk → OfEntries (D.reads disk) (λ entries. IfOk result (λ log. entries_of log ≡
-            entries)) }
-        ensures refused { D.honest disk → OfEntries (D.reads disk) (λ entries. IfErr result (λ e. IsReadFault e.0)) }
-        ensures stands { D.honest disk → IfOk result (λ log. Stands (D.reads disk) (entries_of log)) }
-        ensures some { IfOk result (λ log. (0 < length (entries_of log)) × ¬ HasFailed log) }
-        ensures files { D.honest disk → IfOk result (λ log. IsCutBack (version_of log) (ends_of log) (D.reads disk)
-            (image_of log)) }
-        ensures version { D.honest disk → IfOk result (λ log. IsOf (version_of log) (D.reads disk)) }
-        ensures durable { D.honest disk → IfOk result Lasts }
-        ensures damaged { D.honest disk → (entry : ℕ) → IfErr result
-            (λ e. e.0 ≡ Damaged entry → IsDamagedAt entry (D.reads disk)) }
-        ensures missing { D.honest disk → IfErr result (λ e. e.0 ≡ NoRepository → HasNoEntry (D.reads disk)) }
-        ensures device { FailsOf D.Disk disk result }
-        ensures no_other { IfErr result (λ e. IsFindFault e.0) }
-        ensures any_moment { D.honest disk → LeavesOr D.Disk disk (disk_left result) (StandsAlike (D.reads disk)) }
-        ensures version_stays { D.honest disk → LeavesOr D.Disk disk (disk_left result) (HaveOneVersion (D.reads
-            disk)) }
-        ensures settles { D.honest disk → IfOk result
-            (λ log. SettlesAs D.Disk disk (disk_of log) (StandsAs (D.reads disk))) }
-        ensures settles_err { D.honest disk → IfErr result (λ e. MaySettleAs D.Disk disk e.1 (StandsAs (D.reads
-            disk))) }
-        ensures kept { D.honest disk → IfErr result
-            (λ e. (e.0 ≡ DeviceFailed) ⊎ Only (D.reads disk) (D.may_leave e.1)) }
-        ensures looks { D.honest disk → IfErr result (λ e. (e.0 ≡ DeviceFailed)
-            ⊎ Looks D.Disk disk e.1) }
-        ensures honest { D.honest disk ↔ D.honest (disk_left result) }
-        ensures later { D.failures disk ≤ D.failures (disk_left result) }
+        ensures opened { IfOk result (IsOpened D.Disk disk) }
+        ensures refused { IfErr result (NotOpened D.Disk disk) }
+        ensures any_moment { OpensThrough D.Disk disk (disk_left result) }
+        ensures acts { HandsOn D.Disk disk result }
     {
         let mut disk = disk;
         match recover(alloc, &mut disk) {
@@ -233,33 +198,14 @@ impl<D: Disk> GateLog<D> {
     /// DeviceFailed (31), after which either may stand; the other refusals leave the disk alone.
     pub fn append(&mut self, bytes: &[u8]) -> Result<Receipt, LogFault>
         requires { 0 < length bytes.now }
-
-        ensures added { IsHonest self.old → OnOk result (entries_of self.new ≡ entries_of self.old ++ bytes.now ∷ []) }
-        ensures ends { OnOk result (ends_of self.new ≡ ends_with (ends_of self.old) bytes.now) }
-        ensures files { IsHonest self.old → OnOk result (IsAdded (version_of self.old) (ends_of self.new) bytes.now
-            (image_of self.old) (image_of self.new)) }
-        ensures version { version_of self.new ≡ version_of self.old }
-        ensures receipt { IfOk result (λ receipt. entry_of receipt ≡ length (entries_of self.old)) }
-        ensures durable { IsHonest self.old → OnOk result (LeavesAfter self.new (λ c. Stands c (entries_of self.old ++
-            bytes.now ∷ []))) }
-        ensures any_moment { WhileWorking self.old (LeavesBetween self.old self.new (IsEither
-            (entries_of self.old) bytes.now)) }
-        ensures any_moment_failed { IsHonest self.old → HasFailed self.old → LeavesBetween self.old self.new
-            (D.may_leave (disk_of self.old)) }
+        ensures added { IfOk result (IsAppended bytes.now self.old self.new) }
+        ensures refused { IfErr result (NotAppended self.old self.new) }
+        ensures full { IsErrOf result LogFull ↔ IsFull self.old (length bytes.now) }
+        ensures any_moment { AppendsThrough bytes.now self.old self.new }
         ensures either { IsHonest self.old → IsErrOf result DeviceFailed → LeavesAfter self.new (IsEither (entries_of
             self.old) bytes.now) }
-
-        ensures device { IsFailure D.Disk (disk_of self.old) (disk_of self.new) result }
-        ensures failed { IsErrOf result Failed ↔ HasFailed self.old }
-        ensures full { IsErrOf result LogFull ↔ IsFull self.old (length bytes.now) }
-        ensures memory { IsErrOf result OutOfMemory → ¬ HasRoom self.old }
-        ensures no_other { IfErr result IsAppendFault }
-
-        ensures kept { OnErr result (ends_of self.new ≡ ends_of self.old) }
-        ensures untouched { IfErr result (λ e. (e ≡ DeviceFailed) ⊎ IsUntouched self.old self.new) }
-        ensures working { FailsBy self.old self.new result }
-        ensures honest { IsHonest self.old ↔ IsHonest self.new }
-        ensures later { D.failures (disk_of self.old) ≤ D.failures (disk_of self.new) }
+        ensures version { version_of self.new ≡ version_of self.old }
+        ensures acts { ActsIn self.old self.new result }
     {
         self.reserve(bytes.len())?;
         let entry = self.ends.len() as u64;
@@ -306,29 +252,10 @@ impl<D: Disk> GateLog<D> {
     /// Failed (32) after a failure of the device, DeviceFailed (31) and OutOfMemory (70), which leaves the disk alone,
     /// and Damaged (33) only where the disk has fewer bytes than an honest one; the entries stay as they are.
     pub fn upgrade(&mut self, alloc: Global) -> Result<u64, LogFault>
-        ensures version { OnOk result (version_of self.new ≡ Second) }
-        ensures count { IfOk result (λ n. version_of self.old ≡ First → n ≡ length (ends_of self.old)) }
-        ensures already { version_of self.old ≡ Second → (disk_of self.new ≡ disk_of self.old)
-            × IfOk result (λ n. n ≡ 0) }
-        ensures files { IsHonest self.old → version_of self.old ≡ First → OnOk result (IsUpgraded (ends_of self.old)
-            (image_of self.old) (image_of self.new)) }
-        ensures ends { ends_of self.new ≡ ends_of self.old }
-        ensures same { IsHonest self.old → entries_of self.new ≡ entries_of self.old }
-        ensures kept { OnErr result (version_of self.new ≡ version_of self.old) }
-        ensures any_moment { WhileWorking self.old (LeavesBetween self.old self.new (λ c. Stands c
-            (entries_of self.old))) }
-        ensures any_moment_failed { HasFailed self.old → disk_of self.new ≡ disk_of self.old }
-        ensures durable { WhileWorking self.old (LeavesAfter self.new (λ c. Stands c (entries_of
-            self.old))) }
-        ensures looks { IfErr result (λ e. (e ≡ DeviceFailed) ⊎ (e ≡ Failed)
-            ⊎ Looks D.Disk (disk_of self.old) (disk_of self.new)) }
-        ensures device { IsFailure D.Disk (disk_of self.old) (disk_of self.new) result }
-        ensures failed { IsErrOf result Failed ↔ HasFailed self.old }
-        ensures working { FailsBy self.old self.new result }
-        ensures no_other { IsHonest self.old → IfErr result IsLogFault }
-        ensures faults { IfErr result (λ e. (e ≡ Failed) ⊎ IsMigrationFault (length (ends_of self.old)) e) }
-        ensures honest { IsHonest self.old ↔ IsHonest self.new }
-        ensures later { D.failures (disk_of self.old) ≤ D.failures (disk_of self.new) }
+        ensures made { IfOk result (IsMadeSecond self.old self.new) }
+        ensures refused { IfErr result (StaysFirst self.old self.new) }
+        ensures keeps { KeepsEntries self.old self.new }
+        ensures acts { ActsIn self.old self.new result }
     {
         if self.failed {
             return Err(LogFault::Failed);

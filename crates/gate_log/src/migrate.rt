@@ -9,7 +9,7 @@ ghost use Rattle.gate_log.specs.Lengths.{HavingBytes};
 ghost use Rattle.gate_log.specs.Looks.{Looks, LooksFor};
 ghost use Rattle.gate_log.specs.Slots.{eight_bytes, slots};
 ghost use Rattle.gate_log.specs.Standing.{last_end, IsRising, parts, IsAtRest, Stands};
-ghost use Rattle.gate_log.specs.Upgrade.{IsUnbegun, IsStaged, IsSwitching, IsSwitched, IsMigrationFault, IsUpgraded};
+ghost use Rattle.gate_log.specs.Upgrade.{IsUnbegun, IsStaged, IsSwitching, IsSwitched, IsMigrated, IsMigrationFault};
 ghost use Rattle.gate_log.specs.Version.{IsBegun};
 ghost use Rattle.gate_log.specs.declared.fault.LogFault.TheVariants.{DeviceFailed};
 ghost use Rattle.gate_log.specs.declared.version.LogVersion.TheVariants.{First, Second};
@@ -27,8 +27,7 @@ pub fn migrate<D: Disk>(alloc: Global, disk: &mut D, ends: &[u64]) -> Result<(),
     requires at_rest { D.honest disk.old → IsAtRest First ends.now (D.reads disk.old) }
     requires durable { IsSound D.Disk disk.old }
 
-    ensures at_rest { Turns D.Disk disk.old disk.new result (λ old. IsAtRest Second ends.now) }
-    ensures files { Turns D.Disk disk.old disk.new result (IsUpgraded ends.now) }
+    ensures done { Turns D.Disk disk.old disk.new result (IsMigrated ends.now) }
     ensures durable { EndsSafe D.Disk disk.old disk.new result }
     ensures any_moment { AtEachMoment D.Disk disk.old disk.new (λ c. Stands c (parts 0 ends.now (D.reads
         disk.old).journal)) }

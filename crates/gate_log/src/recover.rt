@@ -1,15 +1,14 @@
 //! The device calls of an opening.
-ghost use Rattle.std.specs.Prelude.{◌≡◌, ◌⊎◌, ◌<◌, IfOk, IfErr, OnOk, OnErr};
-ghost use Rattle.fleet_disk.specs.Rules.{Follows, Only};
-ghost use Rattle.gate_log.specs.Device.{Acts, ActsFor, ActsSafely, AtEachMoment, EndsSafe, IsSound, LeavesOr, MaySettleAs, Passes};
+ghost use Rattle.std.specs.Prelude.{◌≡◌, ◌<◌, IfOk, IfErr, OnOk, OnErr};
+ghost use Rattle.fleet_disk.specs.Rules.{Follows};
+ghost use Rattle.gate_log.specs.Device.{Acts, ActsFor, ActsSafely, AtEachMoment, EndsSafe, IsSound, MaySettleAs, Passes};
 ghost use Rattle.gate_log.specs.Device.{SettlesAs, Tells, Turns};
 ghost use Rattle.gate_log.specs.Faults.{IsFindFault};
-ghost use Rattle.gate_log.specs.Looks.{Looks, LooksFor};
-ghost use Rattle.gate_log.specs.Recovered.{IsRecovered};
+ghost use Rattle.gate_log.specs.Looks.{LooksFor};
+ghost use Rattle.gate_log.specs.Recovered.{Finds, HandsBack, IsRecovered, OpensThrough};
 ghost use Rattle.gate_log.specs.Standing.{AreEnds, FindsDamage, FindsNone, IsAtRest, IsCleared, IsCutBack, parts};
-ghost use Rattle.gate_log.specs.Standing.{Stands, StandsAlike, StandsAs, StandsAt};
-ghost use Rattle.gate_log.specs.Version.{HaveOneVersion, IsOf, IsBeside};
-ghost use Rattle.gate_log.specs.declared.fault.LogFault.TheVariants.{DeviceFailed};
+ghost use Rattle.gate_log.specs.Standing.{Stands, StandsAs, StandsAt};
+ghost use Rattle.gate_log.specs.Version.{IsOf, IsBeside};
 
 use crate::ends::end_of;
 use crate::fault::LogFault;
@@ -84,20 +83,14 @@ pub fn recover<D: Disk>(alloc: Global, disk: &mut D) -> Result<Found, LogFault>
     ensures done { D.honest disk.old → IfOk result (λ found. IsRecovered found (D.reads disk.old) (D.reads disk.new)) }
     ensures durable { EndsSafe D.Disk disk.old disk.new result }
     ensures ends { IfOk result (λ found. AreEnds found.version found.ends.items) }
-    ensures damaged { FindsDamage D.Disk disk.old result }
-    ensures missing { FindsNone D.Disk disk.old result }
+    ensures finds { Finds D.Disk disk.old result }
     ensures acts { ActsFor D.Disk disk.old disk.new result }
-    ensures no_other { IfErr result IsFindFault }
-    ensures any_moment { D.honest disk.old → LeavesOr D.Disk disk.old disk.new (StandsAlike (D.reads disk.old)) }
-    ensures version_stays { D.honest disk.old → LeavesOr D.Disk disk.old disk.new (HaveOneVersion (D.reads disk.old)) }
+    ensures any_moment { OpensThrough D.Disk disk.old disk.new }
     ensures settles { D.honest disk.old
         → OnOk result (SettlesAs D.Disk disk.old disk.new (StandsAs (D.reads disk.old))) }
     ensures settles_err { D.honest disk.old → OnErr result (MaySettleAs D.Disk disk.old disk.new (StandsAs (D.reads
         disk.old))) }
-    ensures kept { D.honest disk.old → IfErr result
-        (λ e. (e ≡ DeviceFailed) ⊎ Only (D.reads disk.old) (D.may_leave disk.new)) }
-    ensures looks { D.honest disk.old → IfErr result (λ e. (e ≡ DeviceFailed)
-        ⊎ Looks D.Disk disk.old disk.new) }
+    ensures kept { IfErr result (HandsBack D.Disk disk.old disk.new) }
 {
     disk.sync()?; // From here on a stop leaves what a read gives.
     let found = look(alloc, disk)?;

@@ -2,8 +2,13 @@
 use Rattle.std.proofs.Common.{◌≡◌, ◌⊎◌, ℕ, List, refl, ap, subst, inl, inr}
 use Rattle.std.proofs.Math.Logic.{∥∥₁_map}
 use Rattle.fleet_disk.specs.Image.{Image}
-use Rattle.gate_log.specs.Faults.{IsFindFault}
+use Rattle.fleet_disk.specs.declared.disk.Disk.{Ghosts}
+use Rattle.fleet_disk.proofs.Moments.{joined, weaker}
+use Rattle.gate_log.specs.Device.{Leaves, LeavesOr}
+use Rattle.gate_log.specs.Faults.{IsFindFault, IsLogFault}
 use Rattle.gate_log.specs.Standing.{Stands, StandsAlike, HasNoEntry}
+use Rattle.gate_log.specs.Version.{HaveOneVersion, IsOf}
+use Rattle.gate_log.specs.declared.version.LogVersion.{LogVersion}
 use Rattle.gate_log.proofs.Alike.{one_list}
 use Rattle.repo_core.specs.Repository.{Repository, Revision}
 use Rattle.gate_log.specs.declared.fault.LogFault.{LogFault}
@@ -11,7 +16,8 @@ use Rattle.gate_log.specs.declared.fault.LogFault.TheVariants.{DeviceFailed, Fai
 use Rattle.repo_store.specs.declared.fault.StoreFault.{StoreFault}
 use Rattle.repo_store.specs.declared.fault.StoreFault.TheVariants.{Repo, Log}
 use Rattle.repo_store.specs.Journal.{Tell, ReopensTo, KeepsAlike, IsDamaged}
-use Rattle.repo_store.specs.Refusals.{IsReplayFault}
+use Rattle.repo_store.specs.Openings.{KeepsThrough, VersionStays}
+use Rattle.repo_store.specs.Refusals.{IsReplayFault, IsUpgradeFault}
 use Rattle.repo_store.specs.Verdicts.{NotDamaged, NotMissing, OneDamage, DamageNotMissing}
 
 moved : (first image : Image) (entries : List (List ℕ)) (r : Repository) → Stands first entries → Stands image entries
@@ -68,3 +74,30 @@ only_first one law image entry NoRepository known is damaged missing = absurd (l
 only_first one law image entry Failed known is damaged missing = absurd is
 only_first one law image entry ThereAlready known is damaged missing = absurd is
 only_first one law image entry LogFull known is damaged missing = absurd is
+
+-- where the log is refused its disk comes back as it says
+pub handed_back : {P Q : Type 0} (f : LogFault) → (P → Q) → (f ≡ DeviceFailed) ⊎ P → (Log f ≡ Log DeviceFailed) ⊎ Q
+handed_back f so (inl is) = inl (ap Log is)
+handed_back f so (inr p) = inr (so p)
+
+pub looked_on : {P : Type 0} (f : LogFault) → (f ≡ DeviceFailed) ⊎ (f ≡ Failed) ⊎ P → (Log f ≡ Log DeviceFailed) ⊎ (Log f ≡ Log Failed) ⊎ P
+looked_on f (inl is) = inl (ap Log is)
+looked_on f (inr (inl is)) = inr (inl (ap Log is))
+looked_on f (inr (inr p)) = inr (inr p)
+
+pub upgrade_fault : (f : LogFault) → IsLogFault f → IsUpgradeFault (Log f)
+upgrade_fault f (inl is) = inl (ap Log is)
+upgrade_fault f (inr (inl is)) = inr (inl (ap Log is))
+upgrade_fault f (inr (inr is)) = inr (inr (ap Log is))
+
+-- a log is opened, and its entries are read
+module _ {D : Type 0} (G : Ghosts D) (old opened new : D) (looked : Leaves G opened new (G.may_leave opened)) where
+  pub keeps_through : (entries : List (List ℕ)) → LeavesOr G old opened (StandsAlike (G.reads old)) → Stands (G.reads old) entries → ((image : Image) → G.may_leave opened image → Stands image entries) → KeepsThrough G old new
+  keeps_through entries run stands left =
+      joined G.clock G.left_since old opened new (λ i. G.may_leave old i ⊎ KeepsAlike (G.reads old) i) (G.may_leave opened)
+      (weaker G.clock G.left_since old opened (λ i. G.may_leave old i ⊎ StandsAlike (G.reads old) i) (λ i. G.may_leave old i ⊎ KeepsAlike (G.reads old) i) run (λ i p. alike_or (G.reads old) i p))
+      looked (λ i may. inr (alike (G.reads old) i entries stands (left i may)))
+
+  pub version_through : (v : LogVersion) → LeavesOr G old opened (HaveOneVersion (G.reads old)) → IsOf v (G.reads old) → ((image : Image) → G.may_leave opened image → IsOf v image) → VersionStays G old new
+  version_through v run is left =
+      joined G.clock G.left_since old opened new (λ i. G.may_leave old i ⊎ HaveOneVersion (G.reads old) i) (G.may_leave opened) run looked (λ i may. inr (v, is, left i may))

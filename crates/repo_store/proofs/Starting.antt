@@ -1,9 +1,12 @@
 -- The calls that begin a store.
-use Rattle.std.proofs.Common.{◌≡◌, ◌⊎◌, inl, inr, ℕ, List, [], subst}
+use Rattle.std.proofs.Common.{◌≡◌, ◌⊎◌, ◌∙◌, ap, arith, inl, inr, ℕ, List, [], subst, sym}
 use Rattle.fleet_disk.specs.Image.{Image}
 use Rattle.fleet_disk.specs.Rules.{LeavesOnly}
 use Rattle.fleet_disk.proofs.Moments.{joined, weaker}
+use Rattle.gate_log.specs.Faults.{number_of}
 use Rattle.gate_log.specs.Standing.{IsBlank, IsEither}
+use Rattle.gate_log.specs.declared.fault.LogFault.{LogFault}
+use Rattle.gate_log.specs.declared.fault.LogFault.TheVariants.{DeviceFailed, OutOfMemory, ThereAlready}
 
 module _ {D : Type 0} (clock : D → ℕ) (left_since : D → ℕ → Image → Type 0) (first : List ℕ) where
   abbrev Begins : Image → Type 0
@@ -19,3 +22,8 @@ module _ {D : Type 0} (clock : D → ℕ) (left_since : D → ℕ → Image → 
   one_entry old mid new entries bytes none same began added =
       joined clock left_since old mid new Begins (IsEither entries bytes) (blank old mid began) added
       (λ image is. inr (subst (λ (l : List (List ℕ)). IsEither l first image) none (subst (λ (b : List ℕ). IsEither entries b image) same is)))
+
+-- a failure of the device is neither that something is there nor want of memory
+pub failed_alone : (f : LogFault) → f ≡ DeviceFailed → (f ≡ ThereAlready) ⊎ (f ≡ OutOfMemory) → ⊥
+failed_alone f is (inl other) = let n : ◌≡◌ {A = ℕ} 31 35 = ap number_of (sym is ∙ other) in let no : ⊥ = omega (arith, n) in no
+failed_alone f is (inr other) = let n : ◌≡◌ {A = ℕ} 31 70 = ap number_of (sym is ∙ other) in let no : ⊥ = omega (arith, n) in no

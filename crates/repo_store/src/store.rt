@@ -1,22 +1,13 @@
 //! The store.
-ghost use Rattle.std.specs.Prelude.{◌≡◌, ◌≢◌, ◌<◌, ◌≤◌, ◌^◌, ◌↔◌, ◌∷◌};
-ghost use Rattle.std.specs.Prelude.{[], ℕ, length};
-ghost use Rattle.std.specs.Prelude.{IsTrue, Some, None, is_some, IfOk, IfErr, OnOk, IsErr};
+ghost use Rattle.std.specs.Prelude.{◌≡◌, ◌<◌, ◌≤◌, ◌^◌, ◌↔◌};
+ghost use Rattle.std.specs.Prelude.{length, IsTrue, Some, None, is_some, IfOk, IfErr};
 ghost use Rattle.std.specs.Option.{option_copied};
 ghost use Rattle.std.specs.FinMap as finite;
-ghost use Rattle.fleet_disk.specs.Image.{Image, no_bytes};
-ghost use Rattle.fleet_disk.specs.Rules.{Only};
+ghost use Rattle.fleet_disk.specs.Image.{Image};
 ghost use Rattle.gate_log.specs.Log.{entries_of, disk_of as log_disk, HasFailed as LogFailed};
-ghost use Rattle.gate_log.specs.Looks.{Looks};
-ghost use Rattle.gate_log.specs.Standing.{HasNoEntry};
-ghost use Rattle.gate_log.specs.Version.{IsOf};
-ghost use Rattle.gate_log.specs.declared.version.LogVersion.TheVariants.{Second};
 ghost use Rattle.repo_core.specs.Repository.{fresh};
-ghost use Rattle.repo_store.specs.Journal.{doubt_in, Tell, Keeps, KeepsOr, IsDamaged, IsExport, IsBeginning};
-ghost use Rattle.repo_store.specs.Journal.{beginning_of};
-ghost use Rattle.repo_store.specs.Refusals.{IsCreateFault, IsExportFault, IsOpenFault};
-ghost use Rattle.repo_store.specs.declared.fault.StoreFault.TheVariants as refusal;
-ghost use Rattle.gate_log.specs.declared.fault.LogFault.TheVariants as log;
+ghost use Rattle.repo_store.specs.Journal.{doubt_in, Tell, KeepsOr, IsExport, IsBeginning};
+ghost use Rattle.repo_store.specs.Refusals.{IsExportFault};
 
 use crate::StoreFault;
 use crate::replay::replay;
@@ -45,42 +36,20 @@ pub struct RepoStore<D: Disk> {
 }
 
 impl<D: Disk> RepoStore<D> {
-    ghost use Rattle.repo_store.specs.Words.{disk_of, doubt_of, entries_in, repository_of, revisions_of, version_in};
-    ghost use Rattle.repo_store.specs.Words.{HasFailed, IfSound, IsKept, LeavesEntries, ReopensAs, StopKeeps};
-    ghost use Rattle.repo_store.specs.Words.{StopLeaves};
-    ghost use Rattle.repo_store.specs.Openings.{AreHonest, MayBegin, FailsOn, HandsBack, IfBack, IfFault, IfMade};
-    ghost use Rattle.repo_store.specs.Openings.{IsDeviceFault, KeepsThrough, RefusesDamaged, RefusesWhole};
-    ghost use Rattle.repo_store.specs.Openings.{Reopens, TellsDamage, VersionStays};
+    ghost use Rattle.repo_store.specs.Words.{disk_of, doubt_of, repository_of, revisions_of};
+    ghost use Rattle.repo_store.specs.Words.{HasFailed, IfSound, IsKept, ReopensAs, StopKeeps, StopLeaves};
+    ghost use Rattle.repo_store.specs.Openings.{IsCreated, IsOpened, NotCreated, NotOpened};
 
     /// Begins a repository of revision 0 alone, without properties, on a disk of empty files, its log of the second
-    /// version; from Ok on a stop leaves its first entry and no other. Until then a stop leaves no entry, with one gate at most where nothing was
-    /// synced yet, or that one.
+    /// version; from Ok on a stop leaves its first entry and no other. Until then a stop leaves no entry, with one gate
+    /// at most where nothing was synced yet, or that one.
     ///
     /// ThereAlready (35) where a file isn't empty, DeviceFailed (31), OutOfMemory (70). A refusal hands the disk back;
     /// one with something on it then is as it was: a read gives what it gave, and a stop leaves what it could leave, at
     /// each moment too. After 70 it is the disk that was given.
     pub fn create(alloc: Global, disk: D, identity: Uuid) -> Result<RepoStore<D>, (StoreFault, D)>
-        ensures made { IfOk result (λ store. repository_of store ≡ fresh identity) }
-        ensures version { IfOk result (λ store. version_in store ≡ Second) }
-        ensures working { IfOk result (λ store. ¬ HasFailed store) }
-        ensures durable { D.honest disk → IfOk result (λ store. StopLeaves store (Keeps (fresh identity))) }
-        ensures first { D.honest disk → IfOk result (λ store. LeavesEntries store (beginning_of identity ∷ [])) }
-        ensures written { D.honest disk → IfOk result (λ store. entries_in store ≡ beginning_of identity ∷ []) }
-        ensures any_moment { D.honest disk → Only no_bytes (D.may_leave disk)
-            → IfMade result (MayBegin D.Disk identity disk) }
-        ensures any_moment_err { D.honest disk → Only no_bytes (D.may_leave disk)
-            → IfBack result (MayBegin D.Disk identity disk) }
-        ensures looks { D.honest disk → D.reads disk ≢ no_bytes → IfBack result (Looks D.Disk disk) }
-        ensures empty { D.honest disk → OnOk result (D.reads disk ≡ no_bytes) }
-        ensures there { D.honest disk
-            → IfFault result (λ e. e ≡ refusal.Log log.ThereAlready → D.reads disk ≢ no_bytes) }
-        ensures device { IsDeviceFault D.Disk disk result }
-        ensures memory { IfErr result (λ e. e.0 ≡ refusal.Log log.OutOfMemory → e.1 ≡ disk) }
-        ensures no_other { IfFault result IsCreateFault }
-        ensures honest { IfMade result (AreHonest D.Disk disk) }
-        ensures honest_err { IfBack result (AreHonest D.Disk disk) }
-        ensures later { IfMade result (FailsOn D.Disk disk) }
-        ensures later_err { IfBack result (FailsOn D.Disk disk) }
+        ensures begun { IfOk result (IsCreated D.Disk identity disk) }
+        ensures refused { IfErr result (NotCreated D.Disk identity disk) }
     {
         let (repo, bytes) = match prepare(alloc, identity) {
             Ok(prepared) => prepared,
@@ -107,29 +76,8 @@ impl<D: Disk> RepoStore<D> {
     /// log stays: at no moment of an opening does a stop leave another than that of what a read gave, but for what it
     /// could leave before.
     pub fn open(alloc: Global, disk: D) -> Result<RepoStore<D>, (StoreFault, D)>
-        ensures stands { D.honest disk → IfOk result (λ store. ReopensAs store (D.reads disk)) }
-        ensures keeps { D.honest disk → IfOk result (λ store. Keeps (repository_of store) (D.reads disk)) }
-        ensures working { IfOk result (λ store. ¬ HasFailed store) }
-        ensures durable { D.honest disk → IfOk result StopKeeps }
-        ensures found { D.honest disk → Reopens (D.reads disk) result }
-        ensures refused { D.honest disk → RefusesWhole (D.reads disk) result }
-        ensures damaged { D.honest disk → TellsDamage (D.reads disk) result }
-        ensures stopped { D.honest disk → (entry : ℕ) → IsDamaged entry (D.reads disk) → IsErr result }
-        ensures first { D.honest disk → RefusesDamaged (D.reads disk) result }
-        ensures missing { D.honest disk
-            → IfFault result (λ e. e ≡ refusal.Log log.NoRepository → HasNoEntry (D.reads disk)) }
-        ensures device { IsDeviceFault D.Disk disk result }
-        ensures no_other { IfFault result IsOpenFault }
-        ensures any_moment { D.honest disk → IfMade result (KeepsThrough D.Disk disk) }
-        ensures any_moment_err { D.honest disk → IfBack result (KeepsThrough D.Disk disk) }
-        ensures version { D.honest disk → IfOk result (λ store. IsOf (version_in store) (D.reads disk)) }
-        ensures version_stays { D.honest disk → IfMade result (VersionStays D.Disk disk) }
-        ensures version_stays_err { D.honest disk → IfBack result (VersionStays D.Disk disk) }
-        ensures kept { D.honest disk → IfErr result (HandsBack D.Disk disk) }
-        ensures honest { IfMade result (AreHonest D.Disk disk) }
-        ensures honest_err { IfBack result (AreHonest D.Disk disk) }
-        ensures later { IfMade result (FailsOn D.Disk disk) }
-        ensures later_err { IfBack result (FailsOn D.Disk disk) }
+        ensures opened { IfOk result (IsOpened D.Disk disk) }
+        ensures refused { IfErr result (NotOpened D.Disk disk) }
     {
         one_verdict();
         let mut log = match GateLog::open(alloc, disk) {

@@ -1,28 +1,24 @@
 -- An upgrade of a store's log, and what is told of it.
-use Rattle.std.proofs.Common.{◌≡◌, ◌≤◌, ◌↔◌, ◌⊎◌, ℕ, List, ◌++◌, length, Option, Result, Ok, Err, IfErr, codes, inl, inr, refl, sym, ap, subst, ◌∙◌, arith}
+use Rattle.std.proofs.Common.{◌≡◌, ◌⊎◌, ℕ, List, ◌++◌, length, Option, Result, Ok, Err, IfErr, codes, inl, inr, refl, sym, ap, subst, ◌∙◌, arith}
 use Rattle.std.specs.Fmt.{decimal}
 use Rattle.std.specs.Result.{OnOk, OnErr}
 use Rattle.std.specs.Io.KnownBytes.{Appends}
 use Rattle.fleet_disk.specs.Image.{Image}
-use Rattle.fleet_disk.specs.Rules.{LeavesOnly, Rose}
 use Rattle.fleet_disk.specs.declared.disk.Disk.{Ghosts}
 use Rattle.gate_log.specs.Log.{entries_of, version_of}
-use Rattle.gate_log.specs.Looks.{Looks}
-use Rattle.gate_log.specs.Standing.{Stands}
-use Rattle.gate_log.specs.Version.{IsOf}
 use Rattle.gate_log.specs.declared.fault.LogFault.TheVariants as log
 use Rattle.gate_log.specs.declared.version.LogVersion.{LogVersion}
 use Rattle.gate_log.specs.declared.version.LogVersion.TheVariants.{First, Second}
 use Rattle.node_base.specs.Refusals.{refusal_number}
 use Rattle.node_base.specs.declared.refusal.Refusal.{Refusal}
 use Rattle.node_base.specs.declared.refusal.Refusal.TheVariants as refusal
-use Rattle.repo_store.specs.Journal.{Keeps}
-use Rattle.repo_store.specs.Words.{disk_of, log_of, repository_of, HasFailed}
+use Rattle.repo_store.specs.Openings.{IsUpgraded as IsMade, NotUpgraded as NotMade}
+use Rattle.repo_store.specs.Words.{disk_of, log_of, HasFailed}
 use Rattle.repo_store.specs.declared.fault.StoreFault.{StoreFault}
 use Rattle.repo_store.specs.declared.fault.StoreFault.TheVariants.{Log}
 use Rattle.repo_store.specs.declared.store.RepoStore.{RepoStore}
 use Rattle.store_engines.specs.Refusals.{store_refusal}
-use Rattle.store_engines.specs.Upgrades.{count_given, count_upgraded, upgraded_line, HasSums, IsSpared, IsUpgraded, NotUpgraded}
+use Rattle.store_engines.specs.Upgrades.{count_given, upgraded_line, HasSums, IsSpared, IsUpgraded, NotUpgraded}
 use Rattle.store_engines.proofs.Devices.{device_was, failed_was}
 
 -- the answer of an upgrade is how many entries were given sums
@@ -46,26 +42,21 @@ failed_or_memory : refusal.Failed ≡ refusal.OutOfMemory → ⊥
 failed_or_memory e = let n : ◌≡◌ {A = ℕ} 32 70 = ap refusal_number e in let no : ⊥ = omega (arith, n) in no
 
 -- what an upgrade that is Ok leaves of the disk
-module _ {D : Type 0} {G : Ghosts D} (old new : RepoStore D G) (back : D) (same : back ≡ disk_of new) (both : G.honest (disk_of old) ↔ G.honest (disk_of new)) (later : G.failures (disk_of old) ≤ G.failures (disk_of new))
-    (moment : G.honest (disk_of old) → ¬ HasFailed old → LeavesOnly G.clock G.left_since (disk_of old) (disk_of new) (Keeps (repository_of old)))
-    (second : G.honest (disk_of old) → (image : Image) → G.may_leave (disk_of new) image → IsOf Second image)
-    (stand : G.honest (disk_of old) → ¬ HasFailed old → (image : Image) → G.may_leave (disk_of new) image → Stands image (entries_of (log_of old)))
-    (durable : G.honest (disk_of old) → (image : Image) → G.may_leave (disk_of new) image → Keeps (repository_of old) image) where
+module _ {D : Type 0} {G : Ghosts D} (old new : RepoStore D G) (n : ℕ) (back : D) (same : back ≡ disk_of new) (made : IsMade old (new, n)) where
   spared : IsSpared old back
-  spared = subst (λ b. IsSpared old b) (sym same) (record { honest = both; later = later; any_moment = moment })
+  spared = subst (λ b. IsSpared old b) (sym same) (record { honest = made.honest; later = made.later; any_moment = made.any_moment })
 
   left : G.honest (disk_of old) → ¬ HasFailed old → (image : Image) → G.may_leave back image → HasSums old image
-  left h w image may = let m = subst (λ b. G.may_leave b image) same may in (second h image m, stand h w image m, durable h image m)
+  left h w image may = let m = subst (λ b. G.may_leave b image) same may in (made.second h image m, made.stand h w image m, made.durable h image m)
 
-  pub upgrade_told : (r : Result (Unit {0}) Refusal) (before now : Option (List ℕ)) (n : ℕ) → (version_of (log_of old) ≡ First → n ≡ length (entries_of (log_of old)))
-      → (version_of (log_of old) ≡ Second → (disk_of new ≡ disk_of old) × (n ≡ 0)) → OnOk r (Appends before now (codes "Upgraded " ++ (decimal n ++ codes " entries.\n"))) → OnOk r (IsUpgraded before now old back)
-  upgrade_told (Ok u) before now n one two told = record {
+  pub upgrade_told : (r : Result (Unit {0}) Refusal) (before now : Option (List ℕ)) → OnOk r (Appends before now (codes "Upgraded " ++ (decimal n ++ codes " entries.\n"))) → OnOk r (IsUpgraded before now old back)
+  upgrade_told (Ok u) before now told = record {
     spared = spared;
-    already = λ v. same ∙ (two v).0;
-    told = subst (λ k. Appends before now (upgraded_line k)) (counted (version_of (log_of old)) (entries_of (log_of old)) n one two) told;
+    already = λ v. same ∙ (made.already v).0;
+    told = subst (λ k. Appends before now (upgraded_line k)) (counted (version_of (log_of old)) (entries_of (log_of old)) n made.count made.already) told;
     left = left;
   }
-  upgrade_told (Err e) before now n one two told = tt
+  upgrade_told (Err e) before now told = tt
 
   -- whose line can't be written
   pub upgrade_unsaid : (r : Result (Unit {0}) Refusal) (before now : Option (List ℕ)) (fails : Type 0) → IfErr r (λ e. e ≡ refusal.PeerFailed) → OnErr r fails → IfErr r (λ e. NotUpgraded before now fails e old back)
@@ -95,20 +86,15 @@ looked_at f e is (inr (inl p)) d = absurd (failed_or_memory (sym (is ∙ ap stor
 looked_at f e is (inr (inr p)) d = p
 
 pub upgrade_refused : {D : Type 0} {G : Ghosts D} (old : RepoStore D G) (back : D) (f : StoreFault) (e : Refusal) (before : Option (List ℕ)) (fails : Type 0) → e ≡ store_refusal f → (e ≡ refusal.PeerFailed → ⊥)
-    → (G.honest (disk_of old) ↔ G.honest back) → G.failures (disk_of old) ≤ G.failures back
-    → (G.honest (disk_of old) → ¬ HasFailed old → LeavesOnly G.clock G.left_since (disk_of old) back (Keeps (repository_of old)))
-    → (G.honest (disk_of old) → ¬ HasFailed old → (image : Image) → G.may_leave back image → Keeps (repository_of old) image)
-    → (f ≡ Log log.DeviceFailed → Rose (G.failures (disk_of old)) (G.failures back)) → (f ≡ Log log.Failed) ↔ HasFailed old
-    → (G.honest (disk_of old) → (f ≡ Log log.DeviceFailed) ⊎ (f ≡ Log log.Failed) ⊎ (f ≡ Log log.OutOfMemory)) → (HasFailed old → back ≡ disk_of old)
-    → (f ≡ Log log.DeviceFailed) ⊎ (f ≡ Log log.Failed) ⊎ Looks G (disk_of old) back → NotUpgraded before before fails e old back
-upgrade_refused old back f e before fails is no_peer both later moment kept device failed due stays looks = record {
-  spared = record { honest = both; later = later; any_moment = moment };
-  due = λ h. due_of f e is (due h);
-  device = λ d. device (device_was f (sym is ∙ d));
-  failed = λ d. let was = failed.0 (failed_was f (sym is ∙ d)) in (was, stays was);
-  looks = looked_at f e is looks;
+    → NotMade old (f, back) → NotUpgraded before before fails e old back
+upgrade_refused old back f e before fails is no_peer made = record {
+  spared = record { honest = made.honest; later = made.later; any_moment = made.any_moment };
+  due = λ h. due_of f e is (made.no_other h);
+  device = λ d. made.device (device_was f (sym is ∙ d));
+  failed = λ d. let was = made.failed.0 (failed_was f (sym is ∙ d)) in (was, made.stays was);
+  looks = looked_at f e is made.looks;
   quiet = λ other. refl;
   unsaid = λ p. absurd (no_peer p);
   done = λ p. absurd (no_peer p);
-  left = kept;
+  left = made.kept;
 }

@@ -31,6 +31,10 @@ pub record StandsSince {D : Type 0} {G : Ghosts D} (store : RepoStore D G) (t : 
 abbrev pub AllStand : {D : Type 0} {G : Ghosts D} → RepoStore D G → (Telling → Type 0) → Type 0
 AllStand {G} store told = G.honest (disk_of store) → (t : Telling) → told t → StandsSince store t
 
--- where all that was told stood before a call, all stands after it
+-- where all that was told stood before a call of a store that works, all stands after it
+abbrev pub StaysTold : {D : Type 0} {G : Ghosts D} → RepoStore D G → RepoStore D G → (Telling → Type 0) → (Telling → Type 0) → Type 0
+StaysTold old new before now = ¬ HasFailed old → AllStand old before → AllStand new now
+
+-- and of one whose disk is safe
 abbrev pub KeepsTold : {D : Type 0} {G : Ghosts D} → RepoStore D G → RepoStore D G → (Telling → Type 0) → (Telling → Type 0) → Type 0
-KeepsTold old new before now = IsSafe old → ¬ HasFailed old → AllStand old before → AllStand new now
+KeepsTold old new before now = IsSafe old → StaysTold old new before now

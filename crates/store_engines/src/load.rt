@@ -18,7 +18,7 @@ ghost use Rattle.store_engines.specs.Devices.{is_device, IsSafe, Serves};
 ghost use Rattle.store_engines.specs.Loads.{read_of, IsBare};
 ghost use Rattle.store_engines.specs.Loads.{Commits, ServesRecords};
 ghost use Rattle.store_engines.specs.Mirrors.{IsMirror, IsNoMirror};
-ghost use Rattle.store_engines.specs.Telling.{AllStand, KeepsTold};
+ghost use Rattle.store_engines.specs.Telling.{KeepsTold, StaysTold};
 
 use crate::commits::commit_applied;
 use crate::mirror::refuse_mirror;
@@ -265,7 +265,7 @@ pub fn run_load<D: Disk + Drop, I: Input, T: LoadReport>(
     ensures entries { ServesDump I.Input deltas input.old store.old store.new result }
     ensures durable { IfSound store.new (StopKeeps store.new) }
     ensures kept { IsKept store.new }
-    ensures told { ¬ HasFailed store.old → AllStand store.old (T.told report.old) → AllStand store.new (T.told report.new) }
+    ensures told { StaysTold store.old store.new (T.told report.old) (T.told report.new) }
     ensures peer { TellsEither I.Input input.old input.new T.failures report.old report.new result }
 {
     refuse_mirror(store.repo())?;

@@ -7,28 +7,28 @@ use Rattle.fleet_main.proofs.folders.opened_to_upgrade.Goals as goal
 pub returns-in-Ok-open-clause-opened : goal.returns-in-Ok-open-clause-opened
 returns-in-Ok-open-clause-opened g c =
     let l = c.in-Ok.ensures in
-    let e = c.in-Ok-open.ensures in (
+    let e = c.in-Ok-open.ensures.opened in (
       c.in-Ok.lent,
       record { given = l.lends.given; rules = l.lends.rules; lent = l.lends.lent; others = l.lends.others; honest = l.lends.sound; later = c.complete.ensures.later },
-      opened_on g.F.Place.Disk (g.F.Folders.honest c.args.folders.now) c.in-Ok.lent c.in-Ok-open.store l.lends.rules e.stands e.keeps e.working e.honest e.any_moment e.version e.version_stays,
+      opened_on g.F.Place.Disk (g.F.Folders.honest c.args.folders.now) c.in-Ok.lent c.in-Ok-open.store l.lends.rules e,
     )
 
 pub returns-in-Ok-open-clause-lasting : goal.returns-in-Ok-open-clause-lasting
 returns-in-Ok-open-clause-lasting g c =
     let l = c.in-Ok.ensures in
-    let e = c.in-Ok-open.ensures in
+    let e = c.in-Ok-open.ensures.opened in
     opened_lasts g.F.Place.Disk g.F.Folders c.args.folders.now c.complete.new.self c.args.folder.now c.in-Ok.lent c.in-Ok-open.store l.lasting
-    (opened_on g.F.Place.Disk (g.F.Folders.honest c.args.folders.now) c.in-Ok.lent c.in-Ok-open.store l.lends.rules e.stands e.keeps e.working e.honest e.any_moment e.version e.version_stays)
+    (opened_on g.F.Place.Disk (g.F.Folders.honest c.args.folders.now) c.in-Ok.lent c.in-Ok-open.store l.lends.rules e)
 
 pub returns-in-Err-open-clause-refused : goal.returns-in-Err-open-clause-refused
 returns-in-Err-open-clause-refused g c =
     let l = c.in-Ok.ensures in
-    let e = c.in-Err-open.ensures in
+    let e = c.in-Err-open.ensures.refused in
     let t = c.close.ensures in
     open_refused g.F.Place.Disk g.F.Folders c.args.folders.now c.complete.new.self c.close.new.self c.args.folder.now c.in-Ok.lent c.in-Err-open.back c.store_refusal.result
     (record { given = l.lends.given; rules = l.lends.rules; lent = l.lends.lent; others = l.lends.others; honest = l.lends.sound; later = c.complete.ensures.later })
-    (record { back = t.back; others = t.others; honest = t.honest; later = t.later }) e.honest_err
-    (is_unopened g.F.Place.Disk (g.F.Folders.honest c.args.folders.now) c.in-Ok.lent c.in-Err-open.back c.in-Err-open.fault c.store_refusal.result c.store_refusal.ensures.value l.lends.rules e.no_other e.device e.damaged e.missing e.kept e.any_moment_err e.version_stays_err)
+    (record { back = t.back; others = t.others; honest = t.honest; later = t.later }) e.honest
+    (is_unopened g.F.Place.Disk (g.F.Folders.honest c.args.folders.now) c.in-Ok.lent c.in-Err-open.back c.in-Err-open.fault c.store_refusal.result c.store_refusal.ensures.value l.lends.rules e)
 
 pub returns-in-Err-clause-refused : goal.returns-in-Err-clause-refused
 returns-in-Err-clause-refused g c =

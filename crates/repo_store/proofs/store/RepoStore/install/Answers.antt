@@ -22,17 +22,17 @@ invariant_of-self g c =
     let none = no_doubt (doubt_in c.args.self.now.doubt) c.args.self.now.doubted.1 c.requires.working in
     record {
       told = ∥∥₁_map c.args.self.now.told (λ f. λ h w.
-          let honest = c.append.ensures.honest.1 h in
+          let honest = c.append.ensures.acts.honest.1 h in
           let more = tell_more _ _ _ _ (f honest c.requires.working) spells takes in
-          let there = subst (λ (l : List (List ℕ)). Tell l (with_entry_in repo e)) (sym (c.in-Ok.ensures.added honest)) more in
+          let there = subst (λ (l : List (List ℕ)). Tell l (with_entry_in repo e)) (sym (c.in-Ok.ensures.added.added honest)) more in
           subst (λ (r : Repository). Tell (entries_of c.append.new.self) r) (sym c.install.ensures) there);
       kept = ∣ (λ h image left.
-          let honest = c.append.ensures.honest.1 h in
+          let honest = c.append.ensures.acts.honest.1 h in
           let known = ∥∥₁_map c.args.self.now.told (λ f. f honest c.requires.working) in
-          let there = after_kept _ _ _ _ image known spells takes (c.in-Ok.ensures.durable honest image left) in
+          let there = after_kept _ _ _ _ image known spells takes (c.in-Ok.ensures.added.durable honest image left) in
           subst (λ (d : Option Entry). KeepsOr c.install.new.self d image) (sym none) (subst (λ (r : Repository). KeepsOr r None image) (sym c.install.ensures) there)) ∣₁;
       doubted = (
-        λ f. ⊎_elim (λ h. absurd (c.requires.working h)) (λ k. absurd (true≢false (ap is_ok k))) (c.in-Ok.ensures.working.0 f),
+        λ f. ⊎_elim (λ h. absurd (c.requires.working h)) (λ k. absurd (true≢false (ap is_ok k))) (c.in-Ok.ensures.acts.working.0 f),
         λ t. absurd (c.requires.working (c.args.self.now.doubted.1 t)),
       );
     }
@@ -43,17 +43,17 @@ returns-in-Ok-clause-installed g c =
     let takes = takes_of _ _ c.requires.change c.requires.set in
     record {
       worked = c.requires.working;
-      works = λ f. ⊎_elim (λ h. c.requires.working h) (λ k. absurd (true≢false (ap is_ok k))) (c.in-Ok.ensures.working.0 f);
+      works = λ f. ⊎_elim (λ h. c.requires.working h) (λ k. absurd (true≢false (ap is_ok k))) (c.in-Ok.ensures.acts.working.0 f);
       made = c.install.ensures;
-      written = λ h. c.in-Ok.ensures.added h ∙ ap (λ (b : List ℕ). entries_of c.args.self.now.log ++ b ∷ []) spells.canonical;
+      written = λ h. c.in-Ok.ensures.added.added h ∙ ap (λ (b : List ℕ). entries_of c.args.self.now.log ++ b ∷ []) spells.canonical;
       durable = λ h image left.
           let known = ∥∥₁_map c.args.self.now.told (λ f. f h c.requires.working) in
-          after_kept _ _ _ _ image known spells takes (c.in-Ok.ensures.durable h image left);
+          after_kept _ _ _ _ image known spells takes (c.in-Ok.ensures.added.durable h image left);
       any_moment = λ h.
           let known = ∥∥₁_map c.args.self.now.told (λ f. f h c.requires.working) in
-          leaves_map _ _ _ _ _ _ (λ image e. either_kept _ _ _ _ image known spells takes e) (c.in-Ok.ensures.any_moment h c.requires.working);
-      honest = c.in-Ok.ensures.honest;
-      later = c.in-Ok.ensures.later;
+          leaves_map _ _ _ _ _ _ (λ image e. either_kept _ _ _ _ image known spells takes e) (c.in-Ok.ensures.any_moment.working h c.requires.working);
+      honest = c.in-Ok.ensures.acts.honest;
+      later = c.in-Ok.ensures.acts.later;
     }
 
 pub invariant_of-self-in-Err : goal.invariant_of-self-in-Err
@@ -62,13 +62,13 @@ invariant_of-self-in-Err g c =
     let takes = takes_of _ _ c.requires.change c.requires.set in
     let size = ap (λ (b : List ℕ). length b) c.deref.ensures.value in
     let is =
-    only_device c.in-Err.fault c.in-Err.ensures.no_other (λ e. c.requires.working (c.in-Err.ensures.failed.0 (ap Err e)))
-    (λ e. let long = (c.in-Err.ensures.full.0 (ap Err e)).1 in let no : ⊥ = omega (arith, long, size, c.requires.fits) in no) (λ e. c.in-Err.ensures.memory (ap Err e) c.requires.room) in
-    let failed = c.in-Err.ensures.working.1 (inr (ap Err is)) in
+    only_device c.in-Err.fault c.in-Err.ensures.refused.no_other (λ e. c.requires.working (c.in-Err.ensures.acts.failed.0 (ap Err e)))
+    (λ e. let long = (c.in-Err.ensures.full.0 (ap Err e)).1 in let no : ⊥ = omega (arith, long, size, c.requires.fits) in no) (λ e. c.in-Err.ensures.refused.memory e c.requires.room) in
+    let failed = c.in-Err.ensures.acts.working.1 (inr (ap Err is)) in
     record {
       told = ∣ (λ h w. absurd (w failed)) ∣₁;
       kept = ∣ (λ h image left.
-          let honest = c.append.ensures.honest.1 h in
+          let honest = c.append.ensures.acts.honest.1 h in
           let known = ∥∥₁_map c.args.self.now.told (λ f. f honest c.requires.working) in
           ∣ either_kept _ _ _ _ image known spells takes (c.in-Err.ensures.either honest (ap Err is) image left) ∣₁) ∣₁;
       doubted = (λ f. refl, λ t. failed);
@@ -80,12 +80,12 @@ returns-clause-installed g c =
     let takes = takes_of _ _ c.requires.change c.requires.set in
     let size = ap (λ (b : List ℕ). length b) c.deref.ensures.value in
     let is =
-    only_device c.in-Err.fault c.in-Err.ensures.no_other (λ e. c.requires.working (c.in-Err.ensures.failed.0 (ap Err e)))
-    (λ e. let long = (c.in-Err.ensures.full.0 (ap Err e)).1 in let no : ⊥ = omega (arith, long, size, c.requires.fits) in no) (λ e. c.in-Err.ensures.memory (ap Err e) c.requires.room) in
+    only_device c.in-Err.fault c.in-Err.ensures.refused.no_other (λ e. c.requires.working (c.in-Err.ensures.acts.failed.0 (ap Err e)))
+    (λ e. let long = (c.in-Err.ensures.full.0 (ap Err e)).1 in let no : ⊥ = omega (arith, long, size, c.requires.fits) in no) (λ e. c.in-Err.ensures.refused.memory e c.requires.room) in
     record {
       fault = ap Log is;
       worked = c.requires.working;
-      failed = c.in-Err.ensures.working.1 (inr (ap Err is));
+      failed = c.in-Err.ensures.acts.working.1 (inr (ap Err is));
       same = refl;
       doubt = refl;
       either = λ h image left.
@@ -93,8 +93,8 @@ returns-clause-installed g c =
           either_kept _ _ _ _ image known spells takes (c.in-Err.ensures.either h (ap Err is) image left);
       any_moment = λ h.
           let known = ∥∥₁_map c.args.self.now.told (λ f. f h c.requires.working) in
-          leaves_map _ _ _ _ _ _ (λ image e. either_kept _ _ _ _ image known spells takes e) (c.in-Err.ensures.any_moment h c.requires.working);
-      device = c.in-Err.ensures.device (ap Err is);
-      honest = c.in-Err.ensures.honest;
-      later = c.in-Err.ensures.later;
+          leaves_map _ _ _ _ _ _ (λ image e. either_kept _ _ _ _ image known spells takes e) (c.in-Err.ensures.any_moment.working h c.requires.working);
+      device = c.in-Err.ensures.acts.device (ap Err is);
+      honest = c.in-Err.ensures.acts.honest;
+      later = c.in-Err.ensures.acts.later;
     }
