@@ -95,6 +95,18 @@ no_dir kind text (Some x) t m d =
     let h : (differs || (is_some text && not (is_file (kind_of x)))) ≡ (differs || true) = λ i. differs || (t i && not (is_file (k i))) in
     cc (h, m, or_true differs)
 
+present : (o : Option Node) → is_none o ≡ false → IsSome o
+present None h = cc
+present (Some x) h = refl
+
+-- what is found where a change settles nothing
+there_of_place : (a : Action) (there : Bool) → settles a ≡ false → place_fault a there ≡ None → there ≡ true
+there_of_place Modify true s h = refl
+there_of_place Modify false s h = cc
+there_of_place Add there s h = cc
+there_of_place Delete there s h = cc
+there_of_place Replace there s h = cc
+
 blank_kind : (k : Option NodeKind) (p t : Bool) → is_described k p t ≡ true → option_map kind_of (Some (blank k)) ≡ k
 blank_kind None p t e = cc
 blank_kind (Some File) p t e = refl
@@ -123,10 +135,14 @@ module _ (trees : List PathMap) (f : Path → Option Node) (c : Change) (e : fau
 
   pub source_there : (s : Source) (m : PathMap) → c.source ≡ Some s → slice_get trees s.revision ≡ Some m → IsSome (get m s.path)
   source_there s m is at = present (get m s.path) (ap (λ p. is_none (get m p)) (sym (append-nil s.path)) ∙ ap (λ o. is_none (option_and_then (λ m. get m (s.path ++ [])) o)) (sym at) ∙ source_known s is)
-    where
-      present : (o : Option Node) → is_none o ≡ false → is_some o ≡ true
-      present None h = cc
-      present (Some x) h = refl
+
+  -- so is the node at its top
+  pub content_there : (s : Source) → c.source ≡ Some s → IsSome (content trees c [])
+  content_there s is = subst (λ (o : Option Source). IsSome (option_map_or (source_at trees) o (alone (blank c.kind)) [])) (sym is) (present (source_at trees s []) (source_known s is))
+
+  -- what a change leaves in its place is there
+  pub stays_there : settles c.action ≡ false → IsSome (f c.path)
+  stays_there s = there_of_place c.action (is_some (f c.path)) s (faultless trees f c e).place
 
   pub copy_small : (s : Source) (m : PathMap) → brings c ≡ true → c.source ≡ Some s → slice_get trees s.revision ≡ Some m → copy_too_long m s.path c.path ≡ false
   copy_small s m b is at =
@@ -290,6 +306,11 @@ source_past trees s i is past = ap (λ o. option_and_then (λ m. get m (s.path +
 still_dir : (a b : Option Node) → a ≡ b → IsSomeAnd a (λ x. IsNone x.text) → IsSomeAnd b (λ x. IsNone x.text)
 still_dir a b e d = subst (λ (o : Option Node). IsSomeAnd o (λ x. IsNone x.text)) e d
 
+numbered_there : (o : Option Node) (b : Bool) (n : ℕ) → IsSome o → IsSome (option_map (λ x. cond b (with_number n x) x) o)
+numbered_there None b n s = s
+numbered_there (Some x) true n s = refl
+numbered_there (Some x) false n s = refl
+
 module _ (trees : List PathMap) (c : Change) where
   pub content_copied : (s : Source) (m : PathMap) (p : Path) → c.source ≡ Some s → slice_get trees s.revision ≡ Some m → p ≡ s.path → (r : Path) → get m (p ++ r) ≡ content trees c r
   content_copied s m p is at same r =
@@ -304,3 +325,9 @@ module _ (trees : List PathMap) (c : Change) where
       let kept : IsDirAt (marked (grafted old c.path (content trees c)) c.path n) c.path = still_dir (new c.path) (marked (grafted old c.path (content trees c)) c.path n c.path) (h c.path) d in
       let brought : IsDirAt (grafted old c.path (content trees c)) c.path = dir_before (grafted old c.path (content trees c)) c.path n c.path kept in
       fits (still_dir (grafted old c.path (content trees c) c.path) (content trees c []) (ap (λ (o : Option Path). option_map_or (content trees c) o (old c.path)) (rest_itself c.path)) brought)
+
+  -- the top of what is brought is there
+  pub brought_there : (old new : Path → Option Node) (n : ℕ) → ((q : Path) → new q ≡ marked (grafted old c.path (content trees c)) c.path n q) → IsSome (content trees c []) → IsSome (new c.path)
+  brought_there old new n h s =
+      let put : IsSome (grafted old c.path (content trees c) c.path) = subst IsSome (sym (ap (λ (o : Option Path). option_map_or (content trees c) o (old c.path)) (rest_itself c.path))) s in
+      subst IsSome (sym (h c.path)) (numbered_there (grafted old c.path (content trees c) c.path) (is_front c.path c.path) n put)

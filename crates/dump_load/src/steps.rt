@@ -40,13 +40,14 @@ pub fn blank(alloc: Global, kind: Option<NodeKind>) -> Result<Node, AllocError>
 
 // Gives the node at the change's path what the change gives, and numbers it and what is above it.
 fn put(alloc: Global, number: RevNo, tree: &mut Tree, change: &Change) -> Result<(), AllocError>
-    requires { IsSome change.now.text → ¬ IsDirAt (map.get tree.old) change.now.path }
+    requires text { IsSome change.now.text → ¬ IsDirAt (map.get tree.old) change.now.path }
+    requires there { IsSome (map.get tree.old change.now.path) }
     ensures { OnOk result ((q : Path) → map.get tree.new q
         ≡ changed_at (marked (map.get tree.old) change.now.path number) change.now.path (with_parts change.now) q) }
 {
     let text = share_text(&change.text)?;
     let props = share_props(&change.props)?;
-    tree.put_parts(alloc, change.path.names(), text, props, number)
+    tree.put_parts_there(alloc, change.path.names(), text, props, number)
 }
 
 // A new node as the change begins it, with what the change gives and the number.

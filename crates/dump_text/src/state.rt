@@ -3,7 +3,6 @@
 ghost use Rattle.std.specs.Prelude.{◌≡◌, ◌≤◌, ◌<◌, ◌+◌, ◌++◌, ◌∷◌, [], ◌^◌, length, take, drop, slice_index, Option, Some};
 ghost use Rattle.std.specs.Prelude.{None, Ok, Err, IfOk, IfSome, OnErr, true, false, if◌then◌else◌};
 ghost use Rattle.md5.specs.Md5.{md5};
-ghost use Rattle.node_base.specs.Blocks.{begun};
 ghost use Rattle.node_base.specs.declared.limits.TheConstants.{PATH_BYTES};
 ghost use Rattle.dump_text.specs.Streams.{StreamIs, Reads, Refuses, begin, fresh_by, behind_version, spent, has_failed};
 ghost use Rattle.dump_text.specs.Streams.{give, whole_text, text_is};
@@ -108,17 +107,6 @@ fn line_end(piece: &[u8]) -> usize
     }
 }
 
-/// The start of a block of so many bytes.
-fn block_from(alloc: Global, delta: bool, announced: u64) -> BlockReader
-    ensures { result ≡ begun delta announced }
-{
-    if delta {
-        BlockReader::of_delta(alloc, announced)
-    } else {
-        BlockReader::new(alloc, announced)
-    }
-}
-
 /// The refusal of a block, as a dump's.
 fn block_fault(fault: PropFault) -> DumpFault
     ensures { result ≡ of_prop_fault fault }
@@ -198,7 +186,7 @@ impl ReadState {
         let deltas = self.head.deltas;
         let head = mem::replace(&mut self.head, Head::new(deltas));
         self.place = Place::Between;
-        self.block = BlockReader::new(alloc, 0);
+        self.block.restart(false, 0);
         self.props = None;
         self.held = HeldBytes::new(alloc);
         let Some(record) = record_from(head, props, text) else {
@@ -295,7 +283,7 @@ impl ReadState {
             Some(0) => Err(DumpFault::BadProps),
             Some(n) => {
                 self.place = Place::Block;
-                self.block = block_from(alloc, is_delta(&self.head), n);
+                self.block.restart(is_delta(&self.head), n);
                 self.held = HeldBytes::new(alloc);
                 Ok(())
             }
@@ -370,7 +358,7 @@ impl ReadState {
             Err(fault) => return Err(block_fault(fault)),
         };
         let part = part_from(is_delta(&self.head), &mut self.block);
-        self.block = BlockReader::new(alloc, 0);
+        self.block.restart(false, 0);
         match self.after_block(alloc, out, Some(part)) {
             Ok(()) => Ok(k),
             Err(fault) => Err(fault),

@@ -57,14 +57,11 @@ impl OpenRevision {
         if !self.is_past_zero() {
             return Err(Refusal::WrongNumber);
         }
-        let Some(mut revision) = self.revision.take() else {
+        let Some(revision) = &mut self.revision else {
             return Err(Refusal::WrongNumber);
         };
         match revision.nodes.push(node) {
-            Ok(()) => {
-                self.revision = Some(revision);
-                Ok(())
-            }
+            Ok(()) => Ok(()),
             Err(_) => Err(Refusal::OutOfMemory),
         }
     }

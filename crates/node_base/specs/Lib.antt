@@ -6,6 +6,7 @@ pub mod Blocks
 pub mod Entries
 pub mod FaultRefusals
 pub mod Limits
+pub mod NameTexts
 pub mod Names
 pub mod NodeEdits
 pub mod Numbers

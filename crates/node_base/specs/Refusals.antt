@@ -1,5 +1,5 @@
 -- Refusals: their numbers, their texts, and the line that the program prints.
-use Rattle.std.specs.Prelude.{ℕ, Bool, true, false, ◌&&◌, nat_le, List, [], ◌∷◌, ◌++◌, map, Option, Some, None, if◌then◌else◌, codes, string_bytes}
+use Rattle.std.specs.Prelude.{ℕ, Bool, true, false, ◌&&◌, nat_le, List, [], ◌∷◌, ◌++◌, map, if◌then◌else◌, codes, string_bytes}
 use Rattle.std.specs.Fmt.{decimal}
 use Rattle.node_base.specs.declared.told_number.ToldNumber.{ToldNumber}
 use Rattle.node_base.specs.declared.told_number.ToldNumber.TheVariants.{Missing, Spelt, Huge}

@@ -71,30 +71,31 @@ impl BlockReader {
     pub fn new(alloc: Global, announced: u64) -> BlockReader
         ensures { result ≡ new_block announced }
     {
-        BlockReader::begun(alloc, false, announced)
-    }
-
-    /// The start of a block of so many bytes that changes a list: it may remove names too. Nothing is reserved for them.
-    pub fn of_delta(alloc: Global, announced: u64) -> BlockReader
-        ensures { result ≡ begun true announced }
-    {
-        BlockReader::begun(alloc, true, announced)
-    }
-
-    // The start of a block.
-    fn begun(alloc: Global, delta: bool, announced: u64) -> BlockReader
-        ensures { result ≡ begun delta announced }
-    {
         BlockReader {
             left: announced,
             part: Part::Tag,
             name: None,
             props: Props::empty(),
             held: Bytes::new(alloc),
-            delta,
+            delta: false,
             removes: false,
             removed: RemovedNames::empty(),
         }
+    }
+
+    /// Begins again, with a block of so many bytes. With `delta` it changes a list, and may remove names. Nothing is
+    /// reserved for it; the room of the one before serves it.
+    pub fn restart(&mut self, delta: bool, announced: u64)
+        ensures { self.new ≡ begun delta announced }
+    {
+        self.left = announced;
+        self.part = Part::Tag;
+        self.name = None;
+        self.props = Props::empty();
+        self.held.clear();
+        self.delta = delta;
+        self.removes = false;
+        self.removed = RemovedNames::empty();
     }
 
     // The byte belongs to the part.
@@ -201,7 +202,7 @@ impl BlockReader {
         let Some(name) = mem::replace(&mut self.name, None) else {
             return Err(PropFault::BadProps);
         };
-        let value = PropValue::new(self.held.take())?;
+        let value = PropValue::new(self.held.take()?)?;
         self.props.set(alloc, name, value)?;
         self.part = Part::ValueEnd;
         Ok(false)
@@ -219,7 +220,7 @@ impl BlockReader {
         ensures { StepIs result self.new (name_is self.old self.old.held) }
     {
         let alloc = self.held.alloc();
-        let name = PropName::from_bytes(self.held.take())?;
+        let name = PropName::from_bytes(self.held.take()?)?;
         if self.has_named(&name) {
             return Err(PropFault::BadProps);
         }

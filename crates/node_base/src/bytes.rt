@@ -1,9 +1,15 @@
 //! Bytes that are read piece by piece.
-ghost use Rattle.std.specs.Prelude.{◌≡◌, [], ◌∷◌, ◌++◌, length, IfOk};
+ghost use Rattle.std.specs.Prelude.{◌≡◌, [], ◌∷◌, ◌++◌, length, IfOk, OnOk};
 
 use std::alloc::{AllocError, Global};
 use std::marker::Model;
 use std::mem;
+
+// Room for so many bytes comes with the first.
+const ROOM: usize = 64;
+
+// So many bytes are copied when they leave, at most.
+const FEW: usize = 256;
 
 // Bytes so far, seen by contracts as their list. They keep their allocator.
 #[derive(Drop)]
@@ -47,9 +53,13 @@ impl Bytes {
         self.bytes.len()
     }
 
+    // Adds a byte. The first makes room for most names and values.
     pub fn push(&mut self, b: u8) -> Result<(), AllocError>
         ensures { IfOk result (λ _. self.new ≡ self.old ++ b ∷ []) }
     {
+        if self.bytes.is_empty() {
+            self.bytes.reserve(ROOM)?;
+        }
         self.bytes.push(b)?;
         Ok(())
     }
@@ -70,12 +80,18 @@ impl Bytes {
         self.bytes.clear();
     }
 
-    // The bytes leave without a copy.
-    pub fn take(&mut self) -> Vec<u8>
-        ensures taken { result.items ≡ self.old }
-        ensures left { self.new ≡ [] }
+    // The bytes leave. Of few a copy does, so that the room stays; more leave without one.
+    pub fn take(&mut self) -> Result<Vec<u8>, AllocError>
+        ensures taken { IfOk result (λ bytes. bytes.items ≡ self.old) }
+        ensures left { OnOk result (self.new ≡ []) }
     {
         let alloc = self.alloc();
-        mem::replace(&mut self.bytes, Vec::new(alloc))
+        if self.bytes.len() > FEW {
+            return Ok(mem::replace(&mut self.bytes, Vec::new(alloc)));
+        }
+        let mut bytes = Vec::with_capacity(alloc, self.bytes.len())?;
+        bytes.extend_from_slice(self.bytes.as_slice())?;
+        self.bytes.clear();
+        Ok(bytes)
     }
 }

@@ -31,6 +31,7 @@ mod fault;
 pub mod limits;
 mod name;
 mod name_set;
+mod name_text;
 mod node;
 mod number;
 mod path;

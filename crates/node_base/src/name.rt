@@ -11,6 +11,7 @@ ghost use Rattle.node_base.specs.PathText.{Answers, name_read};
 
 use crate::PathFault;
 use crate::limits::NAME_BYTES;
+use crate::name_text::NameText;
 use std::alloc::{AllocError, Global};
 use std::cmp::Ordering;
 use std::fmt;
@@ -20,11 +21,11 @@ use std::marker::Model;
 /// `/`, control bytes (0x00 to 0x1F) and 0x7F.
 #[derive(Drop)]
 pub struct NodeName {
-    text: String,
+    text: NameText,
 }
 
 impl Model for NodeName {
-    ghost use Rattle.std.specs.Prelude.{string_bytes};
+    ghost use Rattle.node_base.specs.NameTexts.{name_bytes};
     ghost use Rattle.node_base.specs.Path.{Name, coded_name};
     ghost use Rattle.node_base.specs.declared.limits.TheConstants.{NAME_BYTES};
 
@@ -32,12 +33,12 @@ impl Model for NodeName {
 
     ghost coded = { coded_name };
 
-    ghost view = { λ a. string_bytes a.text };
+    ghost view = { λ a. name_bytes a.text };
 
     ghost use Rattle.std.specs.Prelude.{◌≡◌, ◌≤◌, length, true};
     ghost use Rattle.node_base.specs.Names.{is_name};
 
-    ghost invariant = { λ a. (length (string_bytes a.text) ≤ NAME_BYTES) × (is_name (string_bytes a.text) ≡ true) };
+    ghost invariant = { λ a. (length (name_bytes a.text) ≤ NAME_BYTES) × (is_name (name_bytes a.text) ≡ true) };
 }
 
 impl NodeName {
@@ -56,7 +57,7 @@ impl NodeName {
             return Err(PathFault::BadPath);
         };
         Ok(NodeName {
-            text: String::from_str(alloc, text)?,
+            text: NameText::of(alloc, text)?,
         })
     }
 
@@ -82,7 +83,7 @@ impl NodeName {
         ensures { IfOk result (λ n. n ≡ self.now) }
     {
         Ok(NodeName {
-            text: String::from_str(alloc, self.text.as_str())?,
+            text: self.text.copy(alloc)?,
         })
     }
 

@@ -257,11 +257,23 @@ fn read_path(alloc: Global, bytes: &[u8]) -> Result<NodePath, PathFault>
     if is_past_limits(bytes) {
         return Err(PathFault::TooLong);
     }
-    let mut names = Vec::new(alloc);
+    let mut names = Vec::with_capacity(alloc, room_for(bytes))?;
     for piece in Pieces::of(bytes) {
         names.push(NodeName::parse(alloc, piece)?)?;
     }
     Ok(path_of(alloc, names)?)
+}
+
+/// How many names a path of these bytes has, as a path of some has one more than slashes.
+fn room_for(bytes: &[u8]) -> usize {
+    if bytes.is_empty() {
+        return 0;
+    }
+    bytes
+        .iter()
+        .filter(|byte| **byte == b'/')
+        .count()
+        .saturating_add(1)
 }
 
 /// Whether bytes have more than 1,024 bytes, 64 names or 255 bytes of a name.

@@ -20,7 +20,8 @@ fn counted(fed: Result<Option<usize>, PropFault>, sets: usize, removes: usize) -
 
 // What a reader answers to a block that comes so many bytes at a time.
 fn told(alloc: Global, announced: u64, bytes: &[u8], by: usize) -> Told {
-    let mut reader = BlockReader::of_delta(alloc, announced);
+    let mut reader = BlockReader::new(alloc, 0);
+    reader.restart(true, announced);
     let answer = fed(&mut reader, bytes, by);
     let delta = reader.take_delta();
     counted(answer, delta.sets.len(), delta.removed.len())

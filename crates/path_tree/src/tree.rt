@@ -239,10 +239,28 @@ impl Tree {
             → map.get self.new q ≡ changed (map.get self.old) path.now text props number q) }
         ensures err { OnErr result (self.new ≡ self.old) }
     {
-        let _ = &self.root;
         let Some(_) = self.get(path) else {
             return self.mark(alloc, path, number);
         };
+        self.put_parts_there(alloc, path, text, props, number)
+    }
+
+    /// The same of a node that is known to be there, which isn't sought once more.
+    pub fn put_parts_there(
+        &mut self,
+        alloc: Global,
+        path: &[NodeName],
+        text: Option<Text>,
+        props: Option<Props>,
+        number: RevNo,
+    ) -> Result<(), AllocError>
+        requires text { IsSome text → ¬ IsDirAt (map.get self.old) path.now }
+        requires there { IsSome (map.get self.old path.now) }
+        ensures ok { OnOk result ((q : Path)
+            → map.get self.new q ≡ changed (map.get self.old) path.now text props number q) }
+        ensures err { OnErr result (self.new ≡ self.old) }
+    {
+        let _ = &self.root;
         text_limits(&text);
         props_limits(&props);
         self.alter(alloc, path, &Edit::Parts(text, props), Some(number))

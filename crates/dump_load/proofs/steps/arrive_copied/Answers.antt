@@ -6,7 +6,7 @@ use Rattle.node_base.specs.Path.{Path}
 use Rattle.node_base.specs.Tree.{marked, grafted}
 use Rattle.path_tree.specs.Copies.{copy_too_long}
 use Rattle.dump_load.specs.Effect.{content}
-use Rattle.dump_load.proofs.Faultless.{source_read, content_put, content_copied, content_is_no_dir, copied_is, brought_below_root, not_blocked, source_within, source_there, copy_small, text_fits_content}
+use Rattle.dump_load.proofs.Faultless.{source_read, content_put, content_copied, content_is_no_dir, content_there, brought_there, copied_is, brought_below_root, not_blocked, source_within, source_there, copy_small, text_fits_content}
 use Rattle.dump_load.proofs.steps.arrive_copied.Goals as goal
 use Rattle.dump_load.proofs.steps.arrive_copied.Goals.{After-index-trees-index, In_ok-graft_copy}
 
@@ -43,10 +43,15 @@ brought c =
     content_put c.args.trees.now c.args.change.now (get c.args.tree.now) (get c.graft_copy.new.self) (λ r. get c.index-trees-index.result (c.names.result.now ++ r)) c.next_number-number.result c.in_ok-graft_copy.ensures.ok
     (content_copied c.args.trees.now c.args.change.now c.args.source.now c.index-trees-index.result c.names.result.now c.requires.copied there c.names.ensures.names)
 
-pub put-requires : goal.put-requires
-put-requires c = λ t.
-    content_is_no_dir c.args.trees.now c.args.change.now (get c.args.tree.now) (get c.graft_copy.new.self) c.next_number-number.result (brought (goal.at.put-requires c).In_ok-graft_copy)
+pub put-requires-clause-text : goal.put-requires-clause-text
+put-requires-clause-text c = λ t.
+    content_is_no_dir c.args.trees.now c.args.change.now (get c.args.tree.now) (get c.graft_copy.new.self) c.next_number-number.result (brought (goal.at.put-requires-clause-text c).In_ok-graft_copy)
     (text_fits_content c.args.trees.now (get c.args.tree.now) c.args.change.now c.requires.faultless c.requires.brings c.requires.whole t)
+
+pub put-requires-clause-there : goal.put-requires-clause-there
+put-requires-clause-there c =
+    brought_there c.args.trees.now c.args.change.now (get c.args.tree.now) (get c.graft_copy.new.self) c.next_number-number.result (brought (goal.at.put-requires-clause-there c).In_ok-graft_copy)
+    (content_there c.args.trees.now (get c.args.tree.now) c.args.change.now c.requires.faultless c.args.source.now c.requires.copied)
 
 pub returns : goal.returns
 returns c =

@@ -12,7 +12,7 @@ pub returns-in_err-parse : goal.returns-in_err-parse
 returns-in_err-parse c =
     let small : is_past_limits c.args.bytes.now ≡ false = sym c.is_past_limits.ensures ∙ c.if-is_past_limits.false in
     let split = c.loop-piece.invariant.read ∙ ap (λ (p : Path). c.loop-piece.names.items ++ p) c.in-Some.ensures.steps in
-    let p = err_from_is_err_and c.from_residual.result c.from_residual.ensures.1 in
+    let p = err_from_is_err_and c.from_residual-in_err-parse.result c.from_residual-in_err-parse.ensures.1 in
     rw (p.1, p.2) (piece_refused c.args.bytes.now c.loop-piece.names.items (pieces_left c.next.new.self.rest) c.in-Some.piece.now c.in_err-parse.field-0.0 split small c.in_err-parse.ensures.read)
 
 pub loop-piece-preserved : goal.loop-piece-preserved
