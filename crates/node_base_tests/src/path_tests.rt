@@ -314,6 +314,29 @@ fn names_are_compared(rt: HostRuntime) {
     assert!(rt; is_before(&small, &large));
 }
 
+// Whether a name is written so, and its copy too.
+fn is_kept(rt: &impl Abort, alloc: Global, text: &str) -> bool {
+    let found = named(rt, alloc, text.as_bytes());
+    let again = found.copy(alloc).expect(rt, "memory");
+    is_name(alloc, &found, text) && is_name(alloc, &again, text) && found == again
+}
+
+// (names of up to 24 bytes stand in themselves, and longer ones apart)
+#[test]
+fn names_of_any_length_are_kept(rt: HostRuntime) {
+    for text in [
+        "x",
+        "a-name-of-24-bytes-at-al",
+        "a-name-of-25-bytes-at-all",
+        "a-name-of-some-more-bytes-than-those-of-the-others",
+    ] {
+        assert!(rt; is_kept(&rt, rt.alloc(), text), "{text}");
+    }
+    let shorter = named(&rt, rt.alloc(), b"a-name-of-24-bytes-at-al");
+    let longer = named(&rt, rt.alloc(), b"a-name-of-25-bytes-at-all");
+    assert!(rt; is_before(&shorter, &longer));
+}
+
 // Bytes, the number that they spell, and what they show.
 type Number<'a> = (&'a [u8], Option<u64>, &'a str);
 
