@@ -19,11 +19,11 @@ pub returns-in-Ok-clause-on : goal.returns-in-Ok-clause-on
 returns-in-Ok-clause-on c =
     let e = block_piece c.args.out.now.items c.args.self.now c.args.piece.now c.requires.place ∙ ap (of_block c.args.out.now.items c.args.self.now) (rw c.in-Ok-Some.field-0-is at c.in-Ok-Some.ensures.run) in
     let f = λ (b : BlockReader) (p : PropPart). after_block c.args.out.now.items (record c.args.self.now { block = b }) (Some p) in
-    e ∙ ap (λ t. reading t (drop c.in-Ok-Some.k c.args.piece.now)) (ap (λ b. f b (part_of (is_delta c.args.self.now.head) c.feed.new.self.props c.feed.new.self.removed)) (sym c.new.ensures) ∙ ap (f _) (sym (c.part_from-part.ensures ∙ ap (λ d. part_of d c.feed.new.self.props c.feed.new.self.removed) c.is_delta.ensures)) ∙ c.in-Ok.ensures.on)
+    e ∙ ap (λ t. reading t (drop c.in-Ok-Some.k c.args.piece.now)) (ap (λ b. f b (part_of (is_delta c.args.self.now.head) c.feed.new.self.props c.feed.new.self.removed)) (sym c.restart.ensures) ∙ ap (f _) (sym (c.part_from-part.ensures ∙ ap (λ d. part_of d c.feed.new.self.props c.feed.new.self.removed) c.is_delta.ensures)) ∙ c.in-Ok.ensures.on)
 
 pub returns-in-Err-after_block-clause-on : goal.returns-in-Err-after_block-clause-on
 returns-in-Err-after_block-clause-on c =
     let more = drop c.in-Ok-Some.k c.args.piece.now in
     let e = block_piece c.args.out.now.items c.args.self.now c.args.piece.now c.requires.place ∙ ap (of_block c.args.out.now.items c.args.self.now) (rw c.in-Ok-Some.field-0-is at c.in-Ok-Some.ensures.run) in
     let f = λ (b : BlockReader) (p : PropPart). after_block c.args.out.now.items (record c.args.self.now { block = b }) (Some p) in
-    refused_so c.in-Err-after_block.fault _ _ _ more _ _ (e ∙ ap (λ t. reading t more) (ap (λ b. f b (part_of (is_delta c.args.self.now.head) c.feed.new.self.props c.feed.new.self.removed)) (sym c.new.ensures) ∙ ap (f _) (sym (c.part_from-part.ensures ∙ ap (λ d. part_of d c.feed.new.self.props c.feed.new.self.removed) c.is_delta.ensures)))) c.in-Err-after_block.ensures.on
+    refused_so c.in-Err-after_block.fault _ _ _ more _ _ (e ∙ ap (λ t. reading t more) (ap (λ b. f b (part_of (is_delta c.args.self.now.head) c.feed.new.self.props c.feed.new.self.removed)) (sym c.restart.ensures) ∙ ap (f _) (sym (c.part_from-part.ensures ∙ ap (λ d. part_of d c.feed.new.self.props c.feed.new.self.removed) c.is_delta.ensures)))) c.in-Err-after_block.ensures.on
