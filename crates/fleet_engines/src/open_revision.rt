@@ -57,11 +57,14 @@ impl OpenRevision {
         if !self.is_past_zero() {
             return Err(Refusal::WrongNumber);
         }
-        let Some(revision) = &mut self.revision else {
+        let Some(mut revision) = self.revision.take() else {
             return Err(Refusal::WrongNumber);
         };
         match revision.nodes.push(node) {
-            Ok(()) => Ok(()),
+            Ok(()) => {
+                self.revision = Some(revision);
+                Ok(())
+            }
             Err(_) => Err(Refusal::OutOfMemory),
         }
     }

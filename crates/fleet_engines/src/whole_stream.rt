@@ -15,9 +15,6 @@ use std::alloc::Global;
 // How many bytes are read at a time: 64 KiB.
 const PIECE: usize = 65_536;
 
-// Few records have fewer bytes, more or less: 256.
-const RECORD: usize = 256;
-
 // A reader before the first byte, which takes texts that are given as deltas or refuses them.
 fn new_reader(alloc: Global, deltas: bool) -> DumpReader
     ensures { result ≡ fresh_by deltas }
@@ -64,8 +61,6 @@ fn feed<S, O, K: Taker<S, O>>(
     ensures peer { TellsFailure K.failures output.old output.new result }
 {
     let mut records = Vec::new(alloc);
-    // (without memory for that it grows as they come)
-    let _ = records.reserve(piece.len() / RECORD);
     let fed = reader.feed(piece, &mut records);
     take_all(taker, records, store, output)?;
     match fed {

@@ -173,10 +173,21 @@ fn write_children<W: Write>(
 {
     let mut children = children;
     while let Some(child) = children.next()? {
-        let entry = entry_of(alloc, child.node, child.name)?;
-        write_dirent(out, &entry)?;
+        write_child(alloc, &child, out)?;
     }
     Ok(())
+}
+
+// One of them.
+fn write_child<W: Write>(
+    alloc: Global,
+    child: &ChildNode<'_>,
+    out: &mut W,
+) -> Result<(), ServeFault>
+    ensures { Writes W.Write out.old out.new (spell (dirent (entry_of child.now.node.now child.now.name.now))) result }
+{
+    let entry = entry_of(alloc, child.node, child.name)?;
+    Ok(write_dirent(out, &entry)?)
 }
 
 // An entry of a directory.
