@@ -91,6 +91,7 @@ impl Branch {
         match above {
             [] => match place_of(&self.children, &name) {
                 Ok(i) => {
+                    drop(name);
                     let child = &mut self.children[i];
                     child.1 = branch;
                     Ok(())

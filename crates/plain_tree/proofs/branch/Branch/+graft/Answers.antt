@@ -3,19 +3,16 @@ use Rattle.std.specs.FinMap.{get}
 use Rattle.path_tree.proofs.Place.{Swaps, child_found, swaps_set_found, swaps_insert_absent}
 use Rattle.path_tree.proofs.Edits.{first_and_rest, no_path, graft_in_child, grafts_in_child, grafts_as, on_ok, not_absent, some_in_child}
 use Rattle.plain_tree.proofs.branch.Branch.+graft.Goals as goal
-use Rattle.plain_tree.proofs.branch.Branch.+graft.Goals.{After-drop-name-inside, In_ok-insert-in-Err, After-graft-arg-1, After-self-in-Ok-place_of-1}
+use Rattle.plain_tree.proofs.branch.Branch.+graft.Goals.{In_ok-insert-in-Err, After-graft-arg-1, After-self-in-Ok-place_of-1}
 
 -- the child at the last name is overwritten
-swaps_here : (t : _) (c : After-drop-name-inside t) → Swaps c.self.inside.children.items (set c.self.inside.children.items c.in-Ok.i (c.index_mut-child.result.now.0, c.args.branch)) c.args.name (Some c.args.branch)
-swaps_here t c = swaps_set_found c.self.inside.children.items c.deref.result.now c.args.name c.in-Ok.i c.deref.ensures.value c.self.invariant c.in-Ok.ensures.at c.index_mut-child.result.now c.args.branch c.in-Ok.ensures.present c.index_mut-child.ensures.value
-
 pub invariant_of-self : goal.invariant_of-self
-invariant_of-self t c = (swaps_here t c).rising
+invariant_of-self t c = (swaps_set_found c.self.inside.children.items c.deref.result.now c.args.name c.in-Ok.i c.deref.ensures.value c.self.invariant c.in-Ok.ensures.at c.index_mut-child.result.now c.args.branch c.in-Ok.ensures.present c.index_mut-child.ensures.value).rising
 
 pub returns-in-Ok-clause-ok : goal.returns-in-Ok-clause-ok
 returns-in-Ok-clause-ok t c =
     grafts_as _ _ c.args.self.now (c.args.name ∷ []) (c.args.above.now ++ c.args.name ∷ []) (get c.args.branch) c.self.view_is (ap (λ p. p ++ c.args.name ∷ []) (no_path c.args.above.now (omega arith)))
-    (graft_in_child c.self.inside.node c.self.inside.children.items _ c.args.name (Some c.args.branch) c.self.invariant (swaps_here t c) [] (get c.args.branch) (λ q. refl))
+    (graft_in_child c.self.inside.node c.self.inside.children.items _ c.args.name (Some c.args.branch) c.self.invariant (swaps_set_found c.self.inside.children.items c.deref.result.now c.args.name c.in-Ok.i c.deref.ensures.value c.self.invariant c.in-Ok.ensures.at c.index_mut-child.result.now c.args.branch c.in-Ok.ensures.present c.index_mut-child.ensures.value) [] (get c.args.branch) (λ q. refl))
 
 -- a child of the last name is added
 swaps_new : (t : _) (c : In_ok-insert-in-Err t) → Swaps c.self.inside.children.items c.insert.new.self.items c.args.name (Some c.args.branch)
