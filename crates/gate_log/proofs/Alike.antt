@@ -8,8 +8,8 @@ use Rattle.gate_log.specs.declared.fault.LogFault.{LogFault}
 use Rattle.gate_log.specs.declared.fault.LogFault.TheVariants.{DeviceFailed, Failed, Damaged, NoRepository, ThereAlready, LogFull, OutOfMemory}
 use Rattle.gate_log.specs.declared.version.LogVersion.{LogVersion}
 use Rattle.gate_log.specs.Faults.{IsFindFault}
-use Rattle.gate_log.specs.Version.{gates_of, sum_of}
-use Rattle.gate_log.specs.Slots.{eight_bytes, part, mark, slots, sum_size}
+use Rattle.gate_log.specs.Version.{gates_of, sum_of, sum_size}
+use Rattle.gate_log.specs.Slots.{eight_bytes, part, mark, slots}
 use Rattle.gate_log.specs.Standing.{last_end, IsRising, parts, StandsAt, Stands, HasNoEntry, IsDamagedAt, IsSlot}
 use Rattle.gate_log.specs.Verdicts.{OneList, NotDamaged, NotMissing, OneDamage, DamageNotMissing}
 use Rattle.gate_log.proofs.EndLemmas.{length-eight_bytes, length-mark, length_parts, grows}

@@ -7,9 +7,9 @@ use Rattle.fleet_disk.specs.Image.{Image}
 use Rattle.fleet_disk.specs.Rules.{CutBack, OnFile, Follows, Only}
 use Rattle.gate_log.specs.declared.version.LogVersion.{LogVersion}
 use Rattle.gate_log.specs.declared.version.LogVersion.TheVariants.{First}
-use Rattle.gate_log.specs.Version.{file_of, gates_of, others_of, IsOf, IsBeside}
-use Rattle.gate_log.specs.Slots.{slots, gate_place}
-use Rattle.gate_log.specs.Standing.{last_end, IsRising, parts, StandsAt, Stands, IsAtRest, IsCleared, gate_behind}
+use Rattle.gate_log.specs.Version.{file_of, gates_of, others_of, IsOf, IsBeside, gate_place, IsCleared}
+use Rattle.gate_log.specs.Slots.{slots}
+use Rattle.gate_log.specs.Standing.{last_end, IsRising, parts, StandsAt, Stands, IsAtRest, gate_behind}
 use Rattle.gate_log.proofs.EndLemmas.{length-slots, parts_front, slots_front}
 use Rattle.gate_log.proofs.Versions.{going_is, idle_after, on_journal, on_gates, first_others, beside_journal, beside_gates, beside_first}
 

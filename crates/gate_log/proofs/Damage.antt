@@ -6,8 +6,8 @@ use Rattle.gate_log.specs.declared.fault.LogFault.{LogFault}
 use Rattle.gate_log.specs.declared.fault.LogFault.TheVariants.{DeviceFailed, Failed, Damaged, NoRepository, ThereAlready, LogFull, OutOfMemory}
 use Rattle.gate_log.specs.declared.version.LogVersion.{LogVersion}
 use Rattle.gate_log.specs.Faults.{IsEntryFault}
-use Rattle.gate_log.specs.Version.{gates_of, sum_of, IsOf}
-use Rattle.gate_log.specs.Slots.{eight_bytes, part, mark, slots, sum_size, slot_size}
+use Rattle.gate_log.specs.Version.{gates_of, sum_of, IsOf, sum_size, slot_size}
+use Rattle.gate_log.specs.Slots.{eight_bytes, part, mark, slots}
 use Rattle.gate_log.specs.Standing.{IsRising, last_end, IsDamagedAt, IsSlot}
 use Rattle.gate_log.proofs.Alike.{mark_length, one_mark, one_length}
 use Rattle.gate_log.proofs.EndLemmas.{length-eight_bytes, length-mark, length-sum, slot_sum}

@@ -5,8 +5,8 @@ use borrow.Rule.Slice.PartMut.{put_mid}
 use Rattle.md5.proofs.StandardFacts.{length-md5}
 use Rattle.gate_log.specs.declared.version.LogVersion.{LogVersion}
 use Rattle.gate_log.specs.declared.version.LogVersion.TheVariants.{First, Second}
-use Rattle.gate_log.specs.Version.{sum_of}
-use Rattle.gate_log.specs.Slots.{eight_bytes, part, mark, slot, slots, sum_size, slot_size, gate_place, gates_size}
+use Rattle.gate_log.specs.Version.{sum_of, sum_size, slot_size, gate_place}
+use Rattle.gate_log.specs.Slots.{eight_bytes, part, mark, slot, slots, gates_size}
 use Rattle.gate_log.specs.Standing.{last_end, IsRising, parts, IsSlot}
 
 pub length-eight_bytes : (n : ℕ) → length (eight_bytes n) ≡ 8

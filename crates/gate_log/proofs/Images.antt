@@ -5,9 +5,9 @@ use Rattle.std.proofs.lemmas.List.{append-nil, take_all, drop_all, take_at, drop
 use Rattle.fleet_disk.specs.Image.{Image}
 use Rattle.fleet_disk.specs.Rules.{overwritten, Torn}
 use Rattle.gate_log.specs.declared.version.LogVersion.{LogVersion}
-use Rattle.gate_log.specs.Version.{gates_of, others_of, IsOf}
-use Rattle.gate_log.specs.Slots.{part, mark, slot, slots, gate_place}
-use Rattle.gate_log.specs.Standing.{last_end, IsRising, parts, StandsAt, Stands, IsIdle, IsAtRest, IsEither, gate_behind}
+use Rattle.gate_log.specs.Version.{gates_of, others_of, IsOf, gate_place, IsIdle}
+use Rattle.gate_log.specs.Slots.{part, mark, slot, slots}
+use Rattle.gate_log.specs.Standing.{last_end, IsRising, parts, StandsAt, Stands, IsAtRest, IsEither, gate_behind}
 use Rattle.gate_log.proofs.EndLemmas.{length-slots, slots_push, slots_front, part_last, last_end_push, rising_push, parts_front, parts_push}
 use Rattle.gate_log.proofs.Versions.{idle_is}
 

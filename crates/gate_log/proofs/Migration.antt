@@ -6,10 +6,10 @@ use Rattle.fleet_disk.specs.declared.disk.DiskFile.TheVariants.{Gate, Slots}
 use Rattle.fleet_disk.specs.Image.{Image}
 use Rattle.fleet_disk.specs.Rules.{overwritten, Torn, CutBack, OnFile}
 use Rattle.gate_log.specs.declared.version.LogVersion.TheVariants.{First, Second}
-use Rattle.gate_log.specs.Slots.{slots, gate_place}
+use Rattle.gate_log.specs.Slots.{slots}
 use Rattle.gate_log.specs.Standing.{last_end, IsRising, parts, StandsAt, Stands, IsAtRest, gate_behind}
 use Rattle.gate_log.specs.Upgrade.{IsUnbegun, IsStaged, IsSwitching, IsSwitched}
-use Rattle.gate_log.specs.Version.{IsBegun}
+use Rattle.gate_log.specs.Version.{IsBegun, gate_place}
 use Rattle.gate_log.proofs.EndLemmas.{length-slots}
 use Rattle.gate_log.proofs.Images.{over_end, torn_byte, over_byte}
 use Rattle.gate_log.proofs.Versions.{idle_is, begun_by}

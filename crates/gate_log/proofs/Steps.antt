@@ -5,8 +5,8 @@ use Rattle.fleet_disk.specs.declared.disk.DiskFile.TheVariants.{Journal}
 use Rattle.fleet_disk.specs.Image.{Image}
 use Rattle.fleet_disk.specs.Rules.{overwritten, Torn, OnFile, Follows, Only}
 use Rattle.gate_log.specs.declared.version.LogVersion.{LogVersion}
-use Rattle.gate_log.specs.Version.{file_of, gates_of, others_of, IsOf}
-use Rattle.gate_log.specs.Slots.{mark, slots, gate_place}
+use Rattle.gate_log.specs.Version.{file_of, gates_of, others_of, IsOf, gate_place}
+use Rattle.gate_log.specs.Slots.{mark, slots}
 use Rattle.gate_log.specs.Standing.{last_end, IsRising, parts, Stands, IsAtRest, IsEither, gate_behind}
 use Rattle.gate_log.proofs.EndLemmas.{length-slots}
 use Rattle.gate_log.proofs.Images.{Extends, torn_end, torn_byte, over_byte, extended, staged_gates, opened_gates, gate_decides, at_rest_push, gates_with}

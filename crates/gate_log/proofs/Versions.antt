@@ -5,9 +5,8 @@ use Rattle.fleet_disk.specs.Image.{Image}
 use Rattle.fleet_disk.specs.Rules.{OnFile}
 use Rattle.gate_log.specs.declared.version.LogVersion.{LogVersion}
 use Rattle.gate_log.specs.declared.version.LogVersion.TheVariants.{First, Second}
-use Rattle.gate_log.specs.Version.{file_of, gates_of, others_of, IsBegun, IsOf, IsBeside}
+use Rattle.gate_log.specs.Version.{file_of, gates_of, others_of, IsBegun, IsOf, IsBeside, IsIdle, IsCleared}
 use Rattle.gate_log.specs.Slots.{slots}
-use Rattle.gate_log.specs.Standing.{IsIdle, IsCleared}
 use Rattle.gate_log.proofs.EndLemmas.{length-slots}
 
 -- an image has one version

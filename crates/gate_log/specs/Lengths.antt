@@ -4,9 +4,9 @@ use Rattle.fleet_disk.specs.Image.{Image}
 use Rattle.fleet_disk.specs.declared.disk.Disk.{Ghosts}
 use Rattle.gate_log.specs.declared.find.Lengths.{Lengths}
 use Rattle.gate_log.specs.declared.version.LogVersion.{LogVersion}
-use Rattle.gate_log.specs.Slots.{part, slot_size, sum_size}
+use Rattle.gate_log.specs.Slots.{part}
 use Rattle.gate_log.specs.Standing.{IsOpenAt, IsSlotAt}
-use Rattle.gate_log.specs.Version.{gates_of, sum_of}
+use Rattle.gate_log.specs.Version.{gates_of, sum_of, slot_size, sum_size}
 
 -- these are those of an image
 abbrev pub AreLengths : Lengths → Image → Type 0

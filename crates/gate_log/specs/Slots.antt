@@ -1,9 +1,8 @@
 -- The layout of the gates: a slot for each entry, and a gate behind the last.
-use Rattle.std.specs.Prelude.{◌+◌, ◌-◌, ◌*◌, ℕ, List, [], ◌∷◌, ◌++◌, take, drop}
+use Rattle.std.specs.Prelude.{◌+◌, ◌-◌, ℕ, List, [], ◌∷◌, ◌++◌, take, drop}
 use Rattle.std.specs.Int.{to_be_bytes, w64}
 use Rattle.gate_log.specs.declared.version.LogVersion.{LogVersion}
-use Rattle.gate_log.specs.declared.version.LogVersion.TheVariants.{First, Second}
-use Rattle.gate_log.specs.Version.{sum_of}
+use Rattle.gate_log.specs.Version.{sum_of, gate_place}
 
 -- a length in eight bytes, the highest first
 unfoldable pub eight_bytes : ℕ → List ℕ
@@ -25,21 +24,6 @@ slot version end entry = 1 ∷ mark version end entry
 abbrev pub slots : LogVersion → ℕ → List ℕ → List ℕ → List ℕ
 slots version from [] journal = []
 slots version from (end ∷ ends) journal = slot version end (part from end journal) ++ slots version end ends journal
-
--- how many bytes a sum has
-abbrev pub sum_size : LogVersion → ℕ
-sum_size First = 0
-sum_size Second = 16
-
--- how many bytes a slot has; as many as a mark and the next gate
-abbrev pub slot_size : LogVersion → ℕ
-slot_size First = 9
-slot_size Second = 25
-
--- where the gate of an entry stands
-abbrev pub gate_place : LogVersion → ℕ → ℕ
-gate_place First entry = 9 * entry
-gate_place Second entry = 25 * entry
 
 -- how long the gates of so many entries are
 abbrev pub gates_size : LogVersion → ℕ → ℕ

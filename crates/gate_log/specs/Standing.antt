@@ -5,9 +5,8 @@ use Rattle.fleet_disk.specs.declared.disk.Disk.{Ghosts}
 use Rattle.gate_log.specs.declared.fault.LogFault.{LogFault}
 use Rattle.gate_log.specs.declared.fault.LogFault.TheVariants.{Damaged, NoRepository}
 use Rattle.gate_log.specs.declared.version.LogVersion.{LogVersion}
-use Rattle.gate_log.specs.declared.version.LogVersion.TheVariants.{First, Second}
-use Rattle.gate_log.specs.Version.{gates_of, others_of, IsBegun, IsOf}
-use Rattle.gate_log.specs.Slots.{part, mark, slots, gate_place, gates_size}
+use Rattle.gate_log.specs.Version.{gates_of, others_of, gate_place, IsCleared, IsIdle, IsOf}
+use Rattle.gate_log.specs.Slots.{part, mark, slots, gates_size}
 
 -- the journal's length behind the last entry, where the first begins at `from`
 abbrev pub last_end : ℕ → List ℕ → ℕ
@@ -46,11 +45,6 @@ Stands image entries = (version : LogVersion) × (ends : List ℕ) × StandsAt v
 -- the gate behind the entries
 abbrev pub gate_behind : LogVersion → List ℕ → Image → ℕ
 gate_behind version ends image = get_or (gates_of version image) (gate_place version (length ends)) 0
-
--- the bytes of the other file say nothing: `slots` isn't begun, or `gate` is empty
-abbrev pub IsIdle : LogVersion → List ℕ → Type 0
-IsIdle First slots = ¬ IsBegun slots
-IsIdle Second gate = gate ≡ []
 
 -- nothing but these entries is there, with a closed gate behind them
 pub record IsAtRest (version : LogVersion) (ends : List ℕ) (image : Image) : Type 0 where
@@ -113,11 +107,6 @@ IsBlank image = (image.journal ≡ []) × (image.gate ≡ []) × (length image.s
 -- both stand for the same entries
 abbrev pub StandsAlike : Image → Image → Type 0
 StandsAlike first image = (entries : List (List ℕ)) × Stands first entries × Stands image entries
-
--- what an opening leaves of the other file: all of `slots`, or nothing of `gate`
-abbrev pub IsCleared : LogVersion → Image → Image → Type 0
-IsCleared First old new = new.slots ≡ old.slots
-IsCleared Second old new = new.gate ≡ []
 
 -- what is behind the entries is cut
 abbrev pub IsCutBack : LogVersion → List ℕ → Image → Image → Type 0

@@ -4,8 +4,8 @@ use Rattle.std.proofs.Props.{props}
 use Rattle.fleet_disk.specs.Image.{Image}
 use Rattle.gate_log.specs.declared.version.LogVersion.{LogVersion}
 use Rattle.gate_log.specs.declared.version.LogVersion.TheVariants.{First, Second}
-use Rattle.gate_log.specs.Version.{others_of}
-use Rattle.gate_log.specs.Standing.{IsRising, IsIdle, IsAtRest}
+use Rattle.gate_log.specs.Version.{others_of, IsIdle}
+use Rattle.gate_log.specs.Standing.{IsRising, IsAtRest}
 
 pub rising_prop : (from : ℕ) (ends : List ℕ) → IsProp (IsRising from ends)
 rising_prop from [] = hlevel props

@@ -13,14 +13,11 @@ ghost use Rattle.gate_log.specs.declared.fault.LogFault.TheVariants.{Damaged};
 
 use crate::fault::LogFault;
 use crate::reads::{length_of, read_full};
-use crate::slots::{CLOSED, GATE_BYTES, LENGTH_BYTES, OPEN, slot_bytes};
+use crate::slots::{CLOSED, GATE_BYTES, LENGTH_BYTES, OPEN};
 use crate::sums::has_sum;
-use crate::version::{LogVersion, gates_file};
+use crate::version::{LogVersion, begun, empty, gates_file, slot_bytes};
 use fleet_disk::{Disk, DiskFault, DiskFile};
 use std::alloc::Global;
-
-/// How many bytes `slots` has at least, where it has an entry: a slot, and a gate behind it.
-const LEAST_SLOTS: u64 = 26;
 
 /// How long the journal and the file of the gates are, and which that is.
 #[derive(Drop)]
@@ -70,28 +67,6 @@ pub fn find_version<D: Disk>(disk: &mut D) -> Result<LogVersion, DiskFault>
     }
     let gate = length_of(disk, DiskFile::Gate)?;
     Ok(empty(gate))
-}
-
-// The version where `slots` has so many bytes and begins with an open gate.
-fn begun(slots: u64) -> LogVersion
-    ensures second { 26 ≤ slots → result ≡ LogVersion.Second }
-    ensures first { slots < 26 → result ≡ LogVersion.First }
-{
-    if slots < LEAST_SLOTS {
-        return LogVersion::First;
-    }
-    LogVersion::Second
-}
-
-// The version where `gate` has so many bytes and `slots` begins with a closed gate.
-fn empty(gate: u64) -> LogVersion
-    ensures second { gate ≡ 0 → result ≡ LogVersion.Second }
-    ensures first { 0 < gate → result ≡ LogVersion.First }
-{
-    if gate > 0 {
-        return LogVersion::First;
-    }
-    LogVersion::Second
 }
 
 // The end of the entry that begins at `start` in the journal, and whose gate, at this place, is open.

@@ -7,9 +7,9 @@ ghost use Rattle.gate_log.specs.Standing.{ends_with, last_end, IsAdded, IsAtRest
 ghost use Rattle.gate_log.specs.Version.{file_of, gates_of};
 
 use crate::ends::end_of;
-use crate::slots::{GATE_BYTES, OPEN, closed_slot, closed_slot_with_sum, gate_at};
+use crate::slots::{GATE_BYTES, OPEN, closed_slot, closed_slot_with_sum};
 use crate::sums::sum_of_entry;
-use crate::version::{LogVersion, gates_file};
+use crate::version::{LogVersion, gate_at, gates_file};
 use fleet_disk::{Disk, DiskFault, DiskFile};
 
 // Writes an entry behind the last, with its slot and a closed gate behind it; opens its gate once that is synced;

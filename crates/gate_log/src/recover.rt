@@ -6,15 +6,15 @@ ghost use Rattle.gate_log.specs.Device.{SettlesAs, Tells, Turns};
 ghost use Rattle.gate_log.specs.Faults.{IsFindFault};
 ghost use Rattle.gate_log.specs.Looks.{LooksFor};
 ghost use Rattle.gate_log.specs.Recovered.{Finds, HandsBack, IsRecovered, OpensThrough};
-ghost use Rattle.gate_log.specs.Standing.{AreEnds, FindsDamage, FindsNone, IsAtRest, IsCleared, IsCutBack, parts};
+ghost use Rattle.gate_log.specs.Standing.{AreEnds, FindsDamage, FindsNone, IsAtRest, IsCutBack, parts};
 ghost use Rattle.gate_log.specs.Standing.{Stands, StandsAs, StandsAt};
-ghost use Rattle.gate_log.specs.Version.{IsOf, IsBeside};
+ghost use Rattle.gate_log.specs.Version.{IsOf, IsBeside, IsCleared};
 
 use crate::ends::end_of;
 use crate::fault::LogFault;
 use crate::find::{find_ends, find_version, lengths_of};
-use crate::slots::{GATE_BYTES, gate_at};
-use crate::version::{LogVersion, gates_file};
+use crate::slots::GATE_BYTES;
+use crate::version::{LogVersion, gate_at, gates_file};
 use fleet_disk::{Disk, DiskFault, DiskFile};
 use std::alloc::Global;
 

@@ -1,8 +1,6 @@
 //! The layout of the gates: a slot for each entry, and a gate behind the last.
-ghost use Rattle.std.specs.Prelude.{◌≡◌, ◌<◌, ◌≤◌, ◌+◌, ◌^◌, ◌++◌, ◌∷◌, []};
-ghost use Rattle.gate_log.specs.Slots.{eight_bytes, gate_place, gates_size, slot_size, sum_size};
-
-use crate::version::LogVersion;
+ghost use Rattle.std.specs.Prelude.{◌≡◌, ◌++◌, ◌∷◌, []};
+ghost use Rattle.gate_log.specs.Slots.{eight_bytes};
 
 /// The byte of an open gate.
 pub const OPEN: u8 = 1;
@@ -18,30 +16,6 @@ pub const LENGTH_BYTES: usize = 8;
 
 /// How many bytes a sum has.
 pub const SUM_BYTES: usize = 16;
-
-// How many bytes a slot has: a gate, a length and in the second version a sum; or a length, a sum and the next gate.
-pub fn slot_bytes(version: LogVersion) -> u64
-    ensures size { result ≡ slot_size version }
-    ensures sum { result ≡ 9 + sum_size version }
-    ensures most { result ≤ 25 }
-{
-    match version {
-        LogVersion::First => 9,
-        LogVersion::Second => 25,
-    }
-}
-
-// Where the gate of an entry stands.
-pub fn gate_at(version: LogVersion, entry: u64) -> u64
-    requires { gates_size version entry < 2 ^ 64 }
-    ensures place { result ≡ gate_place version entry }
-    ensures room { result + 1 < 2 ^ 64 }
-{
-    match version {
-        LogVersion::First => 9 * entry,
-        LogVersion::Second => 25 * entry,
-    }
-}
 
 // What stands between the gate of an entry and the closed gate behind it, and that gate, in the first version.
 #[tactic(auto, unfolding(crate::specs::Slots::eight_bytes))]

@@ -4,7 +4,8 @@ ghost use Rattle.md5.specs.Md5.{md5};
 ghost use Rattle.gate_log.specs.Faults.{IsEntryFault, IsReadFault};
 ghost use Rattle.gate_log.specs.Lengths.{HavingBytes, HavingSum, IsSumAt};
 ghost use Rattle.gate_log.specs.Looks.{LooksFor, LooksOn};
-ghost use Rattle.gate_log.specs.Slots.{part, sum_size};
+ghost use Rattle.gate_log.specs.Slots.{part};
+ghost use Rattle.gate_log.specs.Version.{sum_size};
 ghost use Rattle.gate_log.specs.declared.version.LogVersion.TheVariants.{Second};
 
 use crate::fault::LogFault;

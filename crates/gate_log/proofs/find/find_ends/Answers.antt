@@ -2,9 +2,9 @@ use Rattle.std.proofs.Common.{◌≡◌, ◌≤◌, ◌+◌, ◌^◌, ◌<◌, �
 use Rattle.fleet_disk.specs.Image.{Image}
 use Rattle.gate_log.specs.declared.fault.LogFault.{LogFault}
 use Rattle.gate_log.specs.Lengths.{AreLengths, EndsWithin}
-use Rattle.gate_log.specs.Slots.{slots, slot_size, gate_place}
+use Rattle.gate_log.specs.Slots.{slots}
 use Rattle.gate_log.specs.Standing.{IsRising, last_end, IsDamagedAt, IsOpenAt, IsSlot, IsSlotAt}
-use Rattle.gate_log.specs.Version.{gates_of}
+use Rattle.gate_log.specs.Version.{gates_of, slot_size, gate_place}
 use Rattle.gate_log.proofs.EndLemmas.{slots_more, place_push, rising_push, last_end_push}
 use Rattle.gate_log.proofs.Damage.{damaged_at, entry_told, damaged_is}
 use Rattle.gate_log.proofs.Looking.{looks_more}

@@ -1,8 +1,8 @@
 use Rattle.std.proofs.Common.{◌≡◌, ◌<◌, ◌≤◌, ◌-◌, ◌++◌, length, drop}
 use Rattle.gate_log.specs.Looks.{Looks}
-use Rattle.gate_log.specs.Slots.{slots, gate_place}
+use Rattle.gate_log.specs.Slots.{slots}
 use Rattle.gate_log.specs.Standing.{IsRising, last_end}
-use Rattle.gate_log.specs.Version.{gates_of}
+use Rattle.gate_log.specs.Version.{gates_of, gate_place}
 use Rattle.gate_log.proofs.find.find_ends.Given as goal
 
 abbrev pub invariant-loop-at : goal.invariant-loop-at

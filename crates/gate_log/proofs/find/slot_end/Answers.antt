@@ -2,8 +2,8 @@ use Rattle.std.proofs.Common.{rules, ◌≡◌, ◌<◌, ◌≤◌, ◌+◌, ◌
 use Rattle.std.proofs.lemmas.List.{drop-drop}
 use Rattle.fleet_disk.specs.declared.disk.DiskFile.{DiskFile}
 use Rattle.fleet_disk.specs.Image.{Image, bytes_of}
-use Rattle.gate_log.specs.Slots.{eight_bytes, part, sum_size, slot_size}
-use Rattle.gate_log.specs.Version.{gates_of, sum_of}
+use Rattle.gate_log.specs.Slots.{eight_bytes, part}
+use Rattle.gate_log.specs.Version.{gates_of, sum_of, sum_size, slot_size}
 use Rattle.gate_log.proofs.Damage.{short_slot, low_slot, high_slot, other_sum, whole_slot}
 use Rattle.gate_log.proofs.EndLemmas.{slot_sum}
 use Rattle.gate_log.proofs.find.slot_end.Goals.{then-end-start-via-then-end-start, then-end-start-via-else-end-start+then-end-lengths}

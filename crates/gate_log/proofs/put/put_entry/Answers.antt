@@ -3,8 +3,8 @@ use Rattle.fleet_disk.specs.declared.disk.DiskFile.{DiskFile}
 use Rattle.fleet_disk.specs.Image.{Image, bytes_of}
 use Rattle.fleet_disk.specs.Rules.{overwritten, Torn, OnFile, Follows}
 use Rattle.fleet_disk.proofs.Moments.{started, goes_on}
-use Rattle.gate_log.specs.Version.{gates_of, others_of}
-use Rattle.gate_log.specs.Slots.{mark, gate_place}
+use Rattle.gate_log.specs.Version.{gates_of, others_of, gate_place}
+use Rattle.gate_log.specs.Slots.{mark}
 use Rattle.gate_log.specs.Standing.{last_end, parts, IsEither}
 use Rattle.gate_log.proofs.EndLemmas.{few_places}
 use Rattle.gate_log.proofs.Images.{over_end}

@@ -3,8 +3,7 @@ use Rattle.fleet_disk.specs.declared.disk.DiskFile.{DiskFile}
 use Rattle.fleet_disk.specs.Image.{Image, bytes_of}
 use Rattle.fleet_disk.specs.Rules.{CutBack, OnFile, Follows}
 use Rattle.fleet_disk.proofs.Moments.{started, goes_on}
-use Rattle.gate_log.specs.Version.{gates_of, IsOf}
-use Rattle.gate_log.specs.Slots.{gate_place}
+use Rattle.gate_log.specs.Version.{gates_of, IsOf, gate_place}
 use Rattle.gate_log.specs.Standing.{parts, Stands}
 use Rattle.gate_log.proofs.Cutting.{still_stands, journal_left, gates_left, beside_left, gates_room, cut_rest}
 use Rattle.gate_log.proofs.Versions.{on_journal, on_gates, beside_journal, beside_gates, cleared_by}
