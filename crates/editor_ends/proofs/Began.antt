@@ -43,25 +43,11 @@ fresh_begun trees f g Add None p None e = ap (λ o. record (begun Add None p Non
 fresh_begun trees f g Add (Some Dir) p None e = ap (λ o. record (begun Add (Some Dir) p None) { props = option_map (λ m. option_map_or (λ x. x.props) o m) (begun Add (Some Dir) p None).props; text = option_map (λ t. option_map_or (λ x. Rattle.std.specs.Prelude.unwrap_or x.text t) o t) (begun Add (Some Dir) p None).text }) (e ∙ ap (λ o. option_map_or (arrives trees (begun Add (Some Dir) p None)) o (marked f p (length trees) p)) (rest_itself p))
 fresh_begun trees f g Add (Some File) p None e = ap (λ o. record (begun Add (Some File) p None) { props = option_map (λ m. option_map_or (λ x. x.props) o m) (begun Add (Some File) p None).props; text = option_map (λ t. option_map_or (λ x. Rattle.std.specs.Prelude.unwrap_or x.text t) o t) (begun Add (Some File) p None).text }) (e ∙ ap (λ o. option_map_or (arrives trees (begun Add (Some File) p None)) o (marked f p (length trees) p)) (rest_itself p))
 
-pub whole_begun : (a : Action) (k : Option NodeKind) (p : Path) (s : Option Source) → (is_add a ≡ true → IsSome k) → (is_add a || not (settles a) || is_delete a) ≡ true → (is_add a ≡ false → s ≡ None) → IsWhole (begun a k p s)
-whole_begun Modify k p None h u f = (λ e. cc, refl)
-whole_begun Modify k p (Some s) h u f = cc (f refl)
-whole_begun Delete k p None h u f = (λ e. cc, refl)
-whole_begun Delete k p (Some s) h u f = cc (f refl)
-whole_begun Replace k p s h u f = cc
-whole_begun Add k p (Some s) h u f = (λ e. cc, refl)
-whole_begun Add None p None h u f = cc (h refl)
-whole_begun Add (Some Dir) p None h u f = (λ e. refl, refl)
-whole_begun Add (Some File) p None h u f = (λ e. refl, refl)
-
 -- ---- faults
 
 pub begin_none : (trees : List PathMap) (f : Nodes) (late : Bool) (x : Change) → (same_path x.path [] && settles x.action) ≡ false → late ≡ false → fault_of trees f x ≡ None → begin_fault trees f late x ≡ None
 begin_none trees f late x root l e =
     (λ i. option_or (fault_if (root i) refusal.BadPath) (option_or (fault_if (l i) refusal.OutOfOrder) (option_or (option_map refused (e i)) None)))
-
-pub begin_root : (trees : List PathMap) (f : Nodes) (late : Bool) (x : Change) → (same_path x.path [] && settles x.action) ≡ true → begin_fault trees f late x ≡ Some refusal.BadPath
-begin_root trees f late x root = ap (λ b. option_or (fault_if b refusal.BadPath) (option_or (fault_if late refusal.OutOfOrder) (option_or (option_map refused (fault_of trees f x)) None))) root
 
 pub begin_late : (trees : List PathMap) (f : Nodes) (late : Bool) (x : Change) → (same_path x.path [] && settles x.action) ≡ false → late ≡ true → begin_fault trees f late x ≡ Some refusal.OutOfOrder
 begin_late trees f late x root l = (λ i. option_or (fault_if (root i) refusal.BadPath) (option_or (fault_if (l i) refusal.OutOfOrder) (option_or (option_map refused (fault_of trees f x)) None)))

@@ -21,18 +21,8 @@ use Rattle.editor_ends.proofs.Began.{change_at-amid, above-amid}
 use Rattle.editor_ends.proofs.Sound.{fault_filled, sound_less}
 use Rattle.editor_ends.proofs.Walks.{front_rest}
 
-pub keeps_same : (trees : List PathMap) (s new : List Change) → new ≡ s → IsNormal s → Keeps trees s new
-keeps_same trees s new e n = subst (Keeps trees s) (sym e) (record { normal = n; faultless = λ h. h; effect_is = λ q. refl; above = λ p. refl; stays = λ p c h. h; keeps = λ p c h k. h })
-
 pub keeps_twice : (trees : List PathMap) (s t u : List Change) → Keeps trees s t → Keeps trees t u → Keeps trees s u
 keeps_twice trees s t u a b = record { normal = b.normal; faultless = λ h. b.faultless (a.faultless h); effect_is = λ q. b.effect_is q ∙ a.effect_is q; above = λ p. b.above p ∙ a.above p; stays = λ p c h. a.stays p c (b.stays p c h); keeps = λ p c h k. b.keeps p c (a.keeps p c h k) (elim k as (λ _. (is_full c ≡ true) ⊎ (is_above t p ≡ false)) [ inl e ↦ inl e | inr e ↦ inr (a.above p ∙ e) ]) }
-
--- one behind the others
-pub keeps_behind : (trees : List PathMap) (rest old new : List Change) (c : Change) → new ≡ old ++ c ∷ [] → IsNormal (old ++ c ∷ rest) → Keeps trees (old ++ c ∷ rest) (new ++ rest)
-keeps_behind trees rest old new c e n = keeps_same trees (old ++ c ∷ rest) (new ++ rest) (ap (λ z. z ++ rest) e ∙ append_assoc old (c ∷ []) rest) n
-
-pub keeps_next : (trees : List PathMap) (rest old front mid new : List Change) (l c : Change) → old ≡ front ++ l ∷ [] → mid ≡ front ++ l ∷ [] → new ≡ mid ++ c ∷ [] → IsNormal (old ++ c ∷ rest) → Keeps trees (old ++ c ∷ rest) (new ++ rest)
-keeps_next trees rest old front mid new l c o m e n = keeps_behind trees rest old new c (e ∙ ap (λ z. z ++ c ∷ []) (m ∙ sym o)) n
 
 none_of : {A : Type 0} (o : Option A) → is_none o ≡ true → o ≡ None
 none_of None e = refl

@@ -44,11 +44,6 @@ or_swap true b c = refl
 or_swap false true c = sym (or_yes c)
 or_swap false false c = sym (or_no c)
 
-or_again : (a b c : Bool) → (a || (b || c)) ≡ ((a || (b || c)) || b)
-or_again true b c = refl
-or_again false true c = refl
-or_again false false c = sym (or_no c)
-
 pub and_split : (a b : Bool) → (a && b) ≡ true → (a ≡ true) × (b ≡ true)
 and_split true b e = (refl, e)
 and_split false b e = cc

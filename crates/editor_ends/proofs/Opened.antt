@@ -49,9 +49,6 @@ no_deletion Add e = refl
 no_deletion Delete e = cc
 no_deletion Replace e = refl
 
-and_off : (b : Bool) → (false && b) ≡ false
-and_off b = refl
-
 -- ---- where there is no change at the path
 
 late_gap : (s : List Change) (i : ℕ) (x : Change) → Placed s x.path (Err i) → is_taken s x.path ≡ false

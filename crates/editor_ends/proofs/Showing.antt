@@ -1,5 +1,5 @@
 -- What was shown and what is left, and where an editor stops.
-use Rattle.std.proofs.Common.{◌≡◌, ◌⊎◌, inl, inr, ℕ, zero, suc, min, length-drop, ◌+◌, ◌<◌, ◌≤◌, true, false, cond, not, List, [], ◌∷◌, ◌++◌, length, map, filter, take, drop, get_or, Option, Some, None, refl, sym, ap, subst, ◌∙◌, append_assoc, append-nil, add-one, drop-cons, arith}
+use Rattle.std.proofs.Common.{◌≡◌, ◌⊎◌, inl, inr, ℕ, zero, suc, min, length-drop, ◌+◌, ◌<◌, ◌≤◌, false, cond, not, List, [], ◌∷◌, ◌++◌, length, map, filter, take, drop, get_or, Option, Some, None, refl, sym, ap, subst, ◌∙◌, append_assoc, append-nil, add-one, drop-cons, arith}
 use Rattle.std.proofs.lemmas.List.{take_min, drop_all}
 use Rattle.std.proofs.lemmas.Bool.{cases_lt}
 use Rattle.std.specs.Prelude.{IfErr, Result, Ok, Err}
@@ -14,10 +14,6 @@ use Rattle.editor_ends.specs.Parts.{removals, settings, pieces_of, pieces}
 use Rattle.editor_ends.specs.Shown.{Shown, Stops}
 
 -- ---- what was shown
-
--- nothing is shown yet
-pub shown_none : {E : Type 0} (shows : E → List Call → Type 0) (e : E) (l : List Call) → Shown shows e e l l
-shown_none shows e l = record { more = []; adds = λ calls h. subst (shows e) (sym (append-nil calls)) h; is = refl }
 
 pub shown_twice : {E : Type 0} (shows : E → List Call → Type 0) (a b c : E) (x y z : List Call) → Shown shows a b x y → Shown shows b c y z → Shown shows a c x z
 shown_twice shows a b c x y z s t =
@@ -36,10 +32,6 @@ shown_all shows a b x y s e calls h = subst (λ l. shows b (calls ++ l)) (sym (s
 -- one call more
 pub shown_one : {E : Type 0} (shows : E → List Call → Type 0) (a b c : E) (x y z : List Call) (one : Call) → Shown shows a b x y → Adds shows b c (one ∷ []) → y ≡ one ∷ z → Shown shows a c x z
 shown_one shows a b c x y z one s adds is = shown_twice shows a b c x y z s (shown_adds shows b c (one ∷ []) y z adds is)
-
--- what is left spelled otherwise
-pub shown_same : {E : Type 0} (shows : E → List Call → Type 0) (a b : E) (x y z : List Call) → Shown shows a b x y → y ≡ z → Shown shows a b x z
-shown_same shows a b x y z s e = subst (λ l. Shown shows a b x l) e s
 
 -- ---- where an editor stops
 
@@ -126,15 +118,6 @@ module _ (prop : Name → Option (List ℕ) → Call) (es : Entries) (i : ℕ) (
 
   pub removals_step : (new : PropMap) → finite.contains_key new e.0 ≡ false → removals prop new (drop i es) ≡ prop e.0 None ∷ removals prop new (drop (i + 1) es)
   removals_step new gone = ap (removals prop new) (rest_is es i e here is) ∙ ap (λ b. map (λ e. prop e.0 None) (cond (not b) (e ∷ filter (λ e. not (finite.contains_key new e.0)) (drop (i + 1) es)) (filter (λ e. not (finite.contains_key new e.0)) (drop (i + 1) es)))) gone
-
-  pub removals_skip : (new : PropMap) → finite.contains_key new e.0 ≡ true → removals prop new (drop i es) ≡ removals prop new (drop (i + 1) es)
-  removals_skip new kept = ap (removals prop new) (rest_is es i e here is) ∙ ap (λ b. map (λ e. prop e.0 None) (cond (not b) (e ∷ filter (λ e. not (finite.contains_key new e.0)) (drop (i + 1) es)) (filter (λ e. not (finite.contains_key new e.0)) (drop (i + 1) es)))) kept
-
-pub settings_none : (prop : Name → Option (List ℕ) → Call) (es : Entries) (i : ℕ) → length es ≤ i → settings prop (drop i es) ≡ []
-settings_none prop es i all = ap (settings prop) (drop_all i es all)
-
-pub removals_none : (prop : Name → Option (List ℕ) → Call) (new : PropMap) (es : Entries) (i : ℕ) → length es ≤ i → removals prop new (drop i es) ≡ []
-removals_none prop new es i all = ap (removals prop new) (drop_all i es all)
 
 -- ---- texts
 

@@ -28,7 +28,6 @@ use Rattle.delta_editor.specs.declared.call.Call.{Call}
 use Rattle.delta_editor.specs.declared.call.Call.TheVariants as call
 use Rattle.delta_editor.specs.Calls.{Adds}
 use Rattle.delta_editor.specs.declared.fault.EditorFault.{EditorFault}
-use Rattle.delta_editor.specs.declared.fault.EditorFault.TheVariants as refusal
 use Rattle.delta_editor.specs.Faults.{refused}
 use Rattle.node_base.specs.declared.fault.TreeFault.{TreeFault}
 use Rattle.node_base.specs.declared.fault.TreeFault.TheVariants.{TooLong, BadPath, NoSuchPath, PathThere, NotDir, NoSource, KindMismatch}
@@ -199,9 +198,6 @@ next_is set i at path c n r more here rest is child =
       under = ap (λ z. is_front z c.path) child ∙ ap (is_front (at ++ n ∷ [])) (append_of_rest at c.path r rest ∙ ap (λ z. at ++ z) is ∙ sym (append_assoc at (n ∷ []) more)) ∙ ap is_some (rest_after-append (at ++ n ∷ []) more);
     }
 
-pub next_here : (set : List Change) (i : ℕ) (at path : Path) → IsNext set i at path → i < length set
-next_here set i at path next = below_slice set i next.change next.is
-
 pub on_ok : {A F : Type 0} (r : Result A F) (P : Type 0) → IsOk r → OnOk r P → P
 on_ok (Ok a) P i h = h
 on_ok (Err e) P i h = absurd (false_isnt_true i)
@@ -251,9 +247,6 @@ all_drop P [] zero h = tt
 all_drop P [] (suc i) h = tt
 all_drop P (x ∷ xs) zero h = h.1
 all_drop P (x ∷ xs) (suc i) h = all_drop P xs i h
-
-pub later_next : (set : List Change) (i j : ℕ) (at : Path) → j ≡ i + 1 → IsLater set i at → IsLater set j at
-later_next set i j at js h = subst (λ k. IsLater set k at) (sym (add-one i) ∙ sym js) (all_drop (λ c. path_cmp at c.path ≡ Less) set i h)
 
 pub later_more : (set : List Change) (i k : ℕ) (at : Path) → i ≤ k → IsLater set i at → IsLater set k at
 later_more set i zero at l h = subst (λ k. IsLater set k at) {x = i} {y = zero} (omega (arith, l)) h
@@ -346,20 +339,6 @@ own_is trees set e f is at = subst (IsOwn trees set) (sym is) (by f (ap (option_
     by KindMismatch h = h
 
 module _ {E O : Type 0} (shows : E → List Call → Type 0) (began : E → O) (refuses : O → List Call → Call → EditorFault → Type 0) (trees : List PathMap) (set : List Change) where
-  -- the walk's own refusals halt it at any place
-  pub halts_own : (e : E) (left : List Call) (f : EditorFault) → IsOwn trees set f → Halts shows began refuses trees set e left f
-  halts_own e left refusal.OutOfMemory h = Memory refl
-  halts_own e left refusal.TooLong h = Faulty h
-  halts_own e left refusal.BadPath h = Faulty h
-  halts_own e left refusal.NoSuchPath h = Faulty h
-  halts_own e left refusal.PathThere h = Faulty h
-  halts_own e left refusal.NotDir h = Faulty h
-  halts_own e left refusal.NoSource h = Faulty h
-  halts_own e left refusal.OutOfOrder h = Faulty h
-  halts_own e left refusal.WrongNumber h = Faulty h
-  halts_own e left refusal.KindMismatch h = Faulty h
-  halts_own e left refusal.PeerFailed h = Faulty h
-
   -- behind what was shown
   pub halts_behind : (a b : E) (x y : List Call) (f : EditorFault) → Shown shows a b x y → began b ≡ began a → Halts shows began refuses trees set b y f → Halts shows began refuses trees set a x f
   halts_behind a b x y f s same (Memory h) = Memory h

@@ -1,9 +1,11 @@
 -- What an editor is shown of a set of changes, said of it before and after, and where it stops.
-use Rattle.std.specs.Prelude.{◌≡◌, ◌≤◌, ◌<◌, ℕ, Bool, false, List, [], Option, Some, None, MatchOption, Result, IfOk, IfErr, OnOk}
+use Rattle.std.specs.Prelude.{◌≡◌, ◌≤◌, ◌<◌, ℕ, Bool, false, List, [], Option, Some, None, length, MatchOption, Result, IfOk, IfErr, OnOk}
 use Rattle.std.specs.List.{slice_get}
 use Rattle.std.specs.FinMap as finite
 use Rattle.node_base.specs.Path.{Path}
 use Rattle.node_base.specs.Tree.{PathMap}
+use Rattle.node_base.specs.declared.limits.TheConstants.{REVISION}
+use Rattle.dump_load.specs.Changes.{IsNormal}
 use Rattle.dump_load.specs.declared.change.Change.{Change}
 use Rattle.dump_load.specs.Effect.{effect}
 use Rattle.dump_load.specs.Faults.{fault_of}
@@ -40,6 +42,12 @@ RestsWith G file c result =
 -- the tree is what the changes before the next one make
 abbrev pub IsWalked : Revision → Progress → Type 0
 IsWalked r progress = Walked r.trees.now r.set.now progress.next progress.tree
+
+-- the changes that are left can be shown: a revision more has a number, the set is normal, and the tree is as far as the changes are
+pub record CanGoOn (r : Revision) (progress : Progress) : Type 0 where
+  pub few : length r.trees.now ≤ REVISION
+  pub normal : IsNormal r.set.now
+  pub walked : IsWalked r progress
 
 -- the calls for the changes that are left, where `at` is the innermost open directory
 abbrev pub calls_left : Revision → Progress → Path → List Call

@@ -1,13 +1,11 @@
 //! What has to be known of a change before it is made.
-ghost use Rattle.std.specs.Prelude.{◌≡◌, ◌≤◌, ◌<◌, ◌+◌, ◌∷◌, [], length, Some, None, false};
+ghost use Rattle.std.specs.Prelude.{◌≡◌, ◌<◌, ◌+◌, ◌∷◌, [], length, Some, None, false};
 ghost use Rattle.std.specs.Prelude.{IfOk, IfErr, OnOk};
 ghost use Rattle.std.specs.FinMap as map;
-ghost use Rattle.node_base.specs.declared.limits.TheConstants.{REVISION};
 ghost use Rattle.dump_load.specs.declared.change.Change.{Change};
-ghost use Rattle.dump_load.specs.Changes.{IsNormal};
 ghost use Rattle.dump_load.specs.Faults.{fault_of};
 ghost use Rattle.editor_ends.specs.Drive.{of_file, old_props};
-ghost use Rattle.editor_ends.specs.Driven.{IsFaultless, IsWalked, Plans};
+ghost use Rattle.editor_ends.specs.Driven.{CanGoOn, IsFaultless, IsWalked, Plans};
 ghost use Rattle.editor_ends.specs.Shown.{IsOwn};
 
 use crate::progress::{Progress, Revision};
@@ -55,10 +53,8 @@ fn old_props(trees: &[Tree], tree: &Tree, change: &Change) -> Result<Props, Allo
 
 /// Makes the next change in the tree that those before it left, where it has no fault there.
 pub fn advance(revision: &Revision<'_>, progress: &mut Progress) -> Result<Plan, EditorFault>
-    requires few { length revision.now.trees.now ≤ REVISION }
-    requires normal { IsNormal revision.now.set.now }
+    requires ready { CanGoOn revision.now progress.old }
     requires here { progress.old.next < length revision.now.set.now }
-    requires walked { IsWalked revision.now progress.old }
     ensures walked { OnOk result (IsWalked revision.now progress.new) }
     ensures next { OnOk result (progress.new.next ≡ progress.old.next + 1) }
     ensures plan { Plans revision.now progress.old result }

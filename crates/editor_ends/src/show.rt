@@ -10,7 +10,7 @@ ghost use Rattle.dump_load.specs.Effect.{effect};
 ghost use Rattle.dump_load.specs.Faults.{fault};
 ghost use Rattle.editor_ends.specs.Drive.{edit_calls};
 ghost use Rattle.editor_ends.specs.Drive as calls;
-ghost use Rattle.editor_ends.specs.Driven.{Drives, Enters, FindsChild, GoesOn, HaltsAmong, HaltsFrom, HaltsInDrive};
+ghost use Rattle.editor_ends.specs.Driven.{CanGoOn, Drives, Enters, FindsChild, GoesOn, HaltsAmong, HaltsFrom, HaltsInDrive};
 ghost use Rattle.editor_ends.specs.Driven.{IsWalked, KeepsEffect, LeavesLater, MovesOn, RestsWith, StopsAmong};
 ghost use Rattle.editor_ends.specs.Driven.{inner_calls, planned_calls};
 ghost use Rattle.editor_ends.specs.Fronts.{above};
@@ -64,10 +64,8 @@ fn enter<E: Editor>(
     up: &mut E::Dir,
     path: &NodePath,
 ) -> Result<Option<E::Dir>, EditorFault>
-    requires few { length revision.now.trees.now ≤ REVISION }
-    requires normal { IsNormal revision.now.set.now }
+    requires ready { CanGoOn revision.now progress.old }
     requires here { progress.old.next < length revision.now.set.now }
-    requires walked { IsWalked revision.now progress.old }
     requires child { IsNext revision.now.set.now progress.old.next (E.dir_path up.old) path.now }
     ensures walked { OnOk result (IsWalked revision.now progress.new) }
     ensures within { OnOk result (progress.new.next ≤ length revision.now.set.now) }
@@ -124,10 +122,8 @@ fn show_below<E: Editor>(
     dir: &mut E::Dir,
     at: &NodePath,
 ) -> Result<(), EditorFault>
-    requires few { length revision.now.trees.now ≤ REVISION }
-    requires normal { IsNormal revision.now.set.now }
+    requires ready { CanGoOn revision.now progress.old }
     requires within { progress.old.next ≤ length revision.now.set.now }
-    requires walked { IsWalked revision.now progress.old }
     requires at { E.dir_path dir.old ≡ at.now }
     requires later { IsLater revision.now.set.now progress.old.next at.now }
     ensures walked { OnOk result (IsWalked revision.now progress.new) }
@@ -165,10 +161,8 @@ fn show_root<E: Editor>(
     editor: &mut E,
     root: &mut E::Dir,
 ) -> Result<(), EditorFault>
-    requires few { length revision.now.trees.now ≤ REVISION }
-    requires normal { IsNormal revision.now.set.now }
+    requires ready { CanGoOn revision.now progress.old }
     requires first { progress.old.next ≡ 0 }
-    requires walked { IsWalked revision.now progress.old }
     requires at { E.dir_path root.old ≡ [] }
     ensures walked { OnOk result (IsWalked revision.now progress.new) }
     ensures within { OnOk result (progress.new.next ≤ length revision.now.set.now) }

@@ -1,25 +1,21 @@
 -- Rows that agree: what a job's run brought is what its readers know.
-use Rattle.std.proofs.Common.{◌≡◌, ℕ, zero, suc, ◌≤◌, ◌+◌, ◌-◌, ◌++◌, Bool, true, false, List, [], ◌∷◌, Option, Some, None, Result, Ok, Err, IfOk, OnOk, refl, sym, ap, subst, ◌∙◌, arith}
+use Rattle.std.proofs.Common.{◌≡◌, ℕ, ◌≤◌, ◌+◌, ◌-◌, Bool, true, false, List, [], ◌∷◌, Option, Result, Ok, Err, IfOk, OnOk, refl, sym, subst, ◌∙◌, arith}
 use Rattle.std.specs.Prelude.{nat_le}
 use Rattle.std.proofs.Math.Logic.{∥∥₁_elim}
 use Rattle.std.proofs.lemmas.Bool.Decides.{nat_tests}
 use Rattle.std.specs.Coded.{Coded-set, coded_option}
 use Rattle.std.specs.List.{AllByRecursion, AllZip, range_with_len}
-use Rattle.std.specs.Option.{option_map}
 use Rattle.fleet_disk.specs.declared.disk.Disk.{Ghosts}
 use Rattle.fleet_jobs.specs.declared.order.Work.{Work}
 use Rattle.fleet_jobs.specs.declared.order.Work.TheVariants.{Sync, Copy}
 use Rattle.node_base.specs.Props.{PropMap}
-use Rattle.node_base.specs.Tree.{PathMap}
 use Rattle.dump_load.specs.declared.change.Change.{Change}
-use Rattle.dump_load.specs.Trees.{effect_tree}
 use Rattle.mirror_share.specs.Locked.{IsStepOf}
 use Rattle.mirror_share.specs.Ports.{IsSeenBy}
 use Rattle.mirror_share.specs.Seen.{HasSeenCommit, HasSeenHead}
 use Rattle.mirror_share.specs.Steps.{StepsShown, Shown, Hides, Stuck}
 use Rattle.mirror_share.specs.declared.share.MirrorShare.{MirrorShare}
-use Rattle.store_share.specs.Chains.{IsChain, tree_in, trees_known}
-use Rattle.store_share.specs.Chains as chains
+use Rattle.store_share.specs.Chains.{IsChain}
 use Rattle.store_share.specs.Facts.{coded_rev}
 use Rattle.store_share.specs.Locked.{HasProps, IsNewest}
 use Rattle.store_share.specs.Seats.{known_by, seen_by}
@@ -44,48 +40,15 @@ use Rattle.fleet_shares.specs.Brought.{HasSeen, AgreeAt, AgreeUpTo, AreCopied, A
 use Rattle.fleet_shares.specs.Jobs.{IsRunOf}
 use Rattle.fleet_shares.specs.Ports.{IsToldTo}
 use Rattle.fleet_shares.proofs.Bringing as walk
+use Rattle.fleet_shares.proofs.Comparing.{same_chained as same_at_all}
 
 -- revisions
 
-same_some : {X : Type 0} (x y : X) → Some x ≡ Some y → x ≡ y
-same_some {X} x y e = ap (λ o. of o) e
-  where
-    of : Option X → X
-    of (Some z) = z
-    of None = x
-
-abbrev rev_of : ℕ → List Change → PathMap → Rev
-rev_of n set tree = record { number = n; set = set; tree = tree }
-
-same_rev : (x y : Rev) → x.number ≡ y.number → x.set ≡ y.set → x.tree ≡ y.tree → x ≡ y
-same_rev x y e f g = ap (λ n. rev_of n x.set x.tree) e ∙ (ap (λ s. rev_of y.number s x.tree) f ∙ ap (λ t. rev_of y.number y.set t) g)
-
--- the same number and the same set, made of the same trees
-same_made : (o p : Option Rev) (n : ℕ) (set : List Change) (ts us : List PathMap) → ts ≡ us → option_map (λ (x : Rev). x.number) o ≡ Some n → option_map (λ (x : Rev). x.number) p ≡ Some n
-    → option_map (λ (x : Rev). x.set) o ≡ Some set → option_map (λ (x : Rev). x.set) p ≡ Some set → chains.IsMade ts o → chains.IsMade us p → o ≡ p
-same_made None p n set ts us e a b c d m k = absurd m
-same_made (Some x) None n set ts us e a b c d m k = absurd k
-same_made (Some x) (Some y) n set ts us e a b c d m k =
-    let sets : x.set ≡ y.set = same_some x.set set c ∙ sym (same_some y.set set d) in
-    ap Some
-    (same_rev x y (same_some x.number n a ∙ sym (same_some y.number n b)) sets
-    (m.effect ∙ (ap (λ s. effect_tree ts s) sets ∙ (ap (λ zs. effect_tree zs y.set) e ∙ sym k.effect))))
-
-module _ {M L : Type 0} {m : _} {r : _} (theirs : ReaderSeat M m) (ours : ReaderSeat L r) (high : ℕ) (agree : AgreeUpTo theirs ours high) (made_theirs : IsChain (known_by theirs) (seen_by theirs)) (made_ours : IsChain (known_by ours) (seen_by ours)) where
-  same_at : (n : ℕ) → n ≤ high → trees_known (known_by ours) n ≡ trees_known (known_by theirs) n → known_by ours n ≡ known_by theirs n
-  same_at n le e =
-      let both = agree n le in
-      same_made (known_by ours n) (known_by theirs n) n both.0 (trees_known (known_by ours) n) (trees_known (known_by theirs) n) e (ours.known n both.2.within) (theirs.known n both.1.within) both.2.set_is both.1.set_is
-      (made_ours n both.2.within) (made_theirs n both.1.within)
-
-  same_front : (n : ℕ) → n ≤ high + 1 → trees_known (known_by ours) n ≡ trees_known (known_by theirs) n
-  same_front zero le = refl
-  same_front (suc n) le =
-      let before = same_front n (omega (arith, le)) in
-      ap (λ ts. ts ++ tree_in (known_by ours n)) before ∙ ap (λ o. trees_known (known_by theirs) n ++ tree_in o) (same_at n (omega (arith, le)) before)
-
-  same_chained : AreSame theirs ours high
-  same_chained n le = same_at n le (same_front n (omega (arith, le)))
+-- of rows that agree, one way and the other
+same_chained : {M L : Type 0} {m : _} {r : _} (theirs : ReaderSeat M m) (ours : ReaderSeat L r) (high : ℕ) → AgreeUpTo theirs ours high → IsChain (known_by theirs) (seen_by theirs) → IsChain (known_by ours) (seen_by ours) → AreSame theirs ours high
+same_chained theirs ours high agree made_theirs made_ours =
+    same_at_all (known_by ours) (known_by theirs) high (λ n le. ours.known n (agree n le).2.within) (λ n le. theirs.known n (agree n le).1.within) (λ n le. (agree n le).2.set_is ∙ sym (agree n le).1.set_is)
+    (λ n le. made_ours n (agree n le).2.within) (λ n le. made_theirs n (agree n le).1.within)
 
 -- rows that agree from revision 0 on have the same revisions
 pub same_up_to : {M L : Type 0} {m : _} {r : _} (theirs : ReaderSeat M m) (ours : ReaderSeat L r) (high : ℕ) → AgreeUpTo theirs ours high → AreSame theirs ours high

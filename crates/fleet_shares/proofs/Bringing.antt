@@ -27,6 +27,8 @@ use Rattle.sync_job.specs.Questions.{Exchange, Identity, Latest, Fetch, FetchPro
 use Rattle.sync_job.specs.Runs.{AreRight, IsLooked, IsSaid, answer_of, hears, hears_all, puts_in}
 use Rattle.sync_job.specs.Said.{Spoken, Says, NoTree, Tells}
 use Rattle.sync_job.specs.Telling.{IsSaidAs, calls_in}
+use Rattle.store_share.proofs.Showing.{some_is}
+use Rattle.sync_job.proofs.Leading.{heard_done, heard_err}
 
 -- numbers
 
@@ -41,25 +43,8 @@ n_isnt i n h e le next = grind (arith, nat_tests)
 none_is_some : {X A : Type 0} (x : X) → ◌≡◌ {A = Option X} None (Some x) → A
 none_is_some x e = absurd (cc)
 
-same_some : {X : Type 0} (x y : X) → Some x ≡ Some y → x ≡ y
-same_some {X} x y e = ap (λ o. of o) e
-  where
-    of : Option X → X
-    of (Some z) = z
-    of None = x
-
 no_number : {A : Type 0} (n : ℕ) (x : Number) → x ≡ Absent → x ≡ Spelt n → A
 no_number n x e f = absurd (let g : Absent ≡ Spelt n = sym e ∙ f in cc)
-
-heard_err : {A : Type 0} (f : SyncFault) (s : Standing) → IsHeard (Err f) (answer.Seen s) → A
-heard_err f s (inl e) = absurd (cc)
-heard_err f s (inr (inl e)) = absurd (let x = e.0 in cc)
-heard_err f s (inr (inr e)) = absurd (let x = e.0 in cc)
-
-heard_done : {A : Type 0} (f : SyncFault) → IsHeard (Err f) answer.Done → A
-heard_done f (inl e) = absurd (cc)
-heard_done f (inr (inl e)) = absurd (let x = e.0 in cc)
-heard_done f (inr (inr e)) = absurd (let x = e.0 in cc)
 
 same_seen : (s t : Standing) → answer.Seen s ≡ answer.Seen t → s ≡ t
 same_seen s t e = ap (λ a. of a) e
@@ -290,11 +275,11 @@ module _ (Theirs Ours : ℕ → List Change → Type 0) (Maps : ℕ → PropMap 
   fetched_knows job n set props is map k =
       record {
         fetched = λ i f s. elim (n == i) as (λ b. (n == i) ≡ b → (if b then Some new else last_fetch job.fetched i) ≡ Some f → f.set ≡ Some s → Theirs i s) [
-          | true ↦ λ e l g. subst (λ j. Theirs j s) (n_is n i e) (is s (ap (λ (x : Fetched). x.set) (same_some new f l) ∙ g))
+          | true ↦ λ e l g. subst (λ j. Theirs j s) (n_is n i e) (is s (ap (λ (x : Fetched). x.set) (some_is new f l) ∙ g))
           | false ↦ λ e l g. k.fetched i f s l g
         ] refl;
         maps = λ i f. elim (n == i) as (λ b. (n == i) ≡ b → (if b then Some new else last_fetch job.fetched i) ≡ Some f → Maps i f.props) [
-          | true ↦ λ e l. subst (λ j. Maps j f.props) (n_is n i e) (subst (λ p. Maps n p) (ap (λ (x : Fetched). x.props) (same_some new f l)) map)
+          | true ↦ λ e l. subst (λ j. Maps j f.props) (n_is n i e) (subst (λ p. Maps n p) (ap (λ (x : Fetched). x.props) (some_is new f l)) map)
           | false ↦ λ e l. k.maps i f l
         ] refl;
         latest = k.latest;
@@ -311,11 +296,11 @@ module _ (Theirs Ours : ℕ → List Change → Type 0) (Maps : ℕ → PropMap 
   answer_knows job (Latest (Ok n)) a among k = record {
     fetched = k.fetched;
     maps = k.maps;
-    latest = λ i e. subst (λ j. Among (Says AsksLatest (told.Latest j)) × Newest j) (same_some n i e) (among, a);
+    latest = λ i e. subst (λ j. Among (Says AsksLatest (told.Latest j)) × Newest j) (some_is n i e) (among, a);
     found = k.found;
   }
   answer_knows job (Latest (Err f)) a among k = k
-  answer_knows job (Fetch n trees (Ok v)) a among k = fetched_knows job n (Some v.set) v.props (λ s e. subst (λ t. Theirs n t) (same_some v.set s e) a.0) a.1 k
+  answer_knows job (Fetch n trees (Ok v)) a among k = fetched_knows job n (Some v.set) v.props (λ s e. subst (λ t. Theirs n t) (some_is v.set s e) a.0) a.1 k
   answer_knows job (Fetch n trees (Err f)) a among k = k
   answer_knows job (FetchProps n (Ok p)) a among k = fetched_knows job n None p (λ s e. none_is_some s e) a k
   answer_knows job (FetchProps n (Err f)) a among k = k

@@ -13,15 +13,8 @@ use Rattle.store_share.specs.Row.{rev_at}
 use Rattle.store_share.specs.declared.rev.Rev.{Rev}
 use Rattle.store_share.proofs.Chained.{chain_of}
 use Rattle.store_share.proofs.Seen.{known_numbers}
-use Rattle.store_share.proofs.Showing.{rev_as}
+use Rattle.store_share.proofs.Showing.{rev_as, some_is}
 use Rattle.fleet_shares.specs.Agreed.{Adds, HaveSet, IsSameTo}
-
-some_of : {A : Type 0} (a b : A) → Some a ≡ Some b → a ≡ b
-some_of {A} a b e = ap (of a) e
-  where
-    of : A → Option A → A
-    of d (Some z) = z
-    of d None = d
 
 -- chains of which each has the number of its place, and the same sets, are the same
 abbrev number_of : Option Rev → Option ℕ
@@ -37,8 +30,8 @@ same_made : (o p : Option Rev) (n : ℕ) (ts us : List PathMap) → ts ≡ us �
 same_made None p n ts us e a b s m k = absurd m
 same_made (Some x) None n ts us e a b s m k = absurd k
 same_made (Some x) (Some y) n ts us e a b s m k =
-    let sets : x.set ≡ y.set = some_of x.set y.set s in
-    ap Some (same_rev x y (some_of x.number y.number (a ∙ sym b)) sets (m.effect ∙ (ap (λ s. effect_tree ts s) sets ∙ (ap (λ zs. effect_tree zs y.set) e ∙ sym k.effect))))
+    let sets : x.set ≡ y.set = some_is x.set y.set s in
+    ap Some (same_rev x y (some_is x.number y.number (a ∙ sym b)) sets (m.effect ∙ (ap (λ s. effect_tree ts s) sets ∙ (ap (λ zs. effect_tree zs y.set) e ∙ sym k.effect))))
 
 module _ (k l : ℕ → Option Rev) (high : ℕ) (first : (n : ℕ) → n ≤ high → number_of (k n) ≡ Some n) (second : (n : ℕ) → n ≤ high → number_of (l n) ≡ Some n) (sets : (n : ℕ) → n ≤ high → set_of (k n) ≡ set_of (l n)) (made : IsChain k high) (made_too : IsChain l high) where
   same_at : (n : ℕ) → n ≤ high → trees_known k n ≡ trees_known l n → k n ≡ l n
@@ -50,7 +43,7 @@ module _ (k l : ℕ → Option Rev) (high : ℕ) (first : (n : ℕ) → n ≤ hi
       let before = same_front n (omega (arith, le)) in
       ap (λ ts. ts ++ tree_in (k n)) before ∙ ap (λ o. trees_known l n ++ tree_in o) (same_at n (omega (arith, le)) before)
 
-  same_chained : (n : ℕ) → n ≤ high → k n ≡ l n
+  pub same_chained : (n : ℕ) → n ≤ high → k n ≡ l n
   same_chained n le = same_at n le (same_front n (omega (arith, le)))
 
 -- what a mirror has besides is its master's, and if all that it had was, all is

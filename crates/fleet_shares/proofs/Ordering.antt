@@ -1,13 +1,10 @@
 -- One order a slot.
-use Rattle.std.proofs.Common.{◌≡◌, ℕ, zero, suc, ◌+◌, List, [], ◌∷◌, ◌++◌, map, sym, ap, ◌∙◌, arith}
+use Rattle.std.proofs.Common.{◌≡◌, ℕ, suc, ◌+◌, List, [], ◌∷◌, ◌++◌, map, sym, ap, ◌∙◌, arith}
 use Rattle.std.specs.List.{range_with_len}
 use Rattle.std.proofs.lemmas.List.{map-append}
 use Rattle.fleet_jobs.specs.declared.order.Order.{Order}
+use Rattle.sync_core.proofs.Lists.{range-next}
 use Rattle.fleet_shares.specs.Orders.{sync_order}
-
-range_next : (a n : ℕ) → range_with_len a (suc n) ≡ range_with_len a n ++ (a + n) ∷ []
-range_next a zero = ap (λ k. k ∷ []) (omega arith)
-range_next a (suc n) = ap (λ ks. a ∷ ks) (range_next (a + 1) n ∙ ap (λ k. range_with_len (a + 1) n ++ k ∷ []) (omega arith))
 
 after : (n m : ℕ) → m ≡ n + 1 → m ≡ suc n
 after n m e = omega (arith, e)
@@ -21,4 +18,4 @@ orders_more os more n m o pushed is next so_far =
     ∙ (ap (λ l. l ++ o ∷ []) so_far
     ∙ (ap (λ k. map sync_order (range_with_len 0 n) ++ k ∷ []) (is ∙ ap sync_order (sym (from_zero n)))
     ∙ (sym (map-append sync_order (range_with_len 0 n) ((0 + n) ∷ []))
-    ∙ (ap (map sync_order) (sym (range_next 0 n)) ∙ ap (λ k. map sync_order (range_with_len 0 k)) (sym (after n m next))))))
+    ∙ (ap (map sync_order) (sym (range-next 0 n)) ∙ ap (λ k. map sync_order (range_with_len 0 k)) (sym (after n m next))))))

@@ -24,6 +24,7 @@ use Rattle.fleet_shares.specs.declared.brings.Brings.{Brings}
 use Rattle.fleet_shares.specs.declared.shares.FleetReaders.{FleetReaders}
 use Rattle.fleet_shares.specs.declared.stores.FleetStores.{FleetStores}
 use Rattle.fleet_shares.specs.declared.stores.OpenedFleet.{OpenedFleet}
+use Rattle.store_share.proofs.Showing.{some_is}
 use Rattle.fleet_shares.proofs.Telling.{of_ok}
 
 -- the newest revision of a book of which each cell took its box
@@ -139,15 +140,8 @@ came_out m r up first None given master slot now same from h before after was th
 came_out m r up first (Some o) given master slot None same from h before after was there = absurd (cc)
 came_out {D = D} {g = g} m r up first (Some o) given master slot (Some s) same from h before after was there =
     subst (λ (x : RepoStore D g). ComesOut m r up x before master after) same
-    (subst (λ (x : RepoStore D g). ComesOut m r up (store_in first) x master after) (same_store (store_in (opened_in o)) before (from ∙ was))
-    (subst (λ (x : RepoStore D g). ComesOut m r up (store_in first) (store_in (opened_in o)) master x) (same_store s after there) h))
-  where
-    same_store : (x y : RepoStore D g) → Some x ≡ Some y → x ≡ y
-    same_store x y e = ap (λ o. of x o) e
-      where
-        of : RepoStore D g → Option (RepoStore D g) → RepoStore D g
-        of d (Some z) = z
-        of d None = d
+    (subst (λ (x : RepoStore D g). ComesOut m r up (store_in first) x master after) (some_is (store_in (opened_in o)) before (from ∙ was))
+    (subst (λ (x : RepoStore D g). ComesOut m r up (store_in first) (store_in (opened_in o)) master x) (some_is s after there) h))
 
 module _ {D : Type 0} {g : _} (m r0 r1 r2 r3 : List ℕ) (stores new : FleetStores D g) (opened : OpenedFleet D g) (from : IsOpenedFrom stores.master stores.first stores.second stores.third stores.fourth opened) where
   -- whatever cells the rows have

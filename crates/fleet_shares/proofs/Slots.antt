@@ -1,48 +1,10 @@
 -- The stores of a fleet by the numbers of their slots.
-use Rattle.std.proofs.Common.{◌≡◌, ◌≢◌, ℕ, zero, suc, Bool, Option, None, is_some, refl, sym, ap, ◌∙◌}
+use Rattle.std.proofs.Common.{◌≡◌, ℕ, zero, suc, Bool, Option, None, is_some, refl, sym, ap, ◌∙◌}
 use Rattle.fleet_shares.specs.Opening.{HasStores}
 use Rattle.fleet_shares.specs.Runners.{has_at}
 use Rattle.fleet_shares.specs.Stores.{pick, store_at}
 use Rattle.fleet_shares.specs.Told.{SameSlots}
 use Rattle.fleet_shares.specs.declared.stores.FleetStores.{FleetStores}
-
-module _ {A : Type 0} (a b c d e x : A) where
-  -- in the other slots nothing changes
-  pub but_first : (n : ℕ) → n ≢ 0 → pick n x b c d e ≡ pick n a b c d e
-  but_first zero other = absurd (other refl)
-  but_first (suc zero) other = refl
-  but_first (suc (suc zero)) other = refl
-  but_first (suc (suc (suc zero))) other = refl
-  but_first (suc (suc (suc (suc n)))) other = refl
-
-  pub but_second : (n : ℕ) → n ≢ 1 → pick n a x c d e ≡ pick n a b c d e
-  but_second zero other = refl
-  but_second (suc zero) other = absurd (other refl)
-  but_second (suc (suc zero)) other = refl
-  but_second (suc (suc (suc zero))) other = refl
-  but_second (suc (suc (suc (suc n)))) other = refl
-
-  pub but_third : (n : ℕ) → n ≢ 2 → pick n a b x d e ≡ pick n a b c d e
-  but_third zero other = refl
-  but_third (suc zero) other = refl
-  but_third (suc (suc zero)) other = absurd (other refl)
-  but_third (suc (suc (suc zero))) other = refl
-  but_third (suc (suc (suc (suc n)))) other = refl
-
-  pub but_fourth : (n : ℕ) → n ≢ 3 → pick n a b c x e ≡ pick n a b c d e
-  but_fourth zero other = refl
-  but_fourth (suc zero) other = refl
-  but_fourth (suc (suc zero)) other = refl
-  but_fourth (suc (suc (suc zero))) other = absurd (other refl)
-  but_fourth (suc (suc (suc (suc n)))) other = refl
-
-  -- there is none past the fourth
-  pub past_fourth : (n : ℕ) → n ≢ 0 → n ≢ 1 → n ≢ 2 → n ≢ 3 → pick n a b c d e ≡ e
-  past_fourth zero o p q r = absurd (o refl)
-  past_fourth (suc zero) o p q r = absurd (p refl)
-  past_fourth (suc (suc zero)) o p q r = absurd (q refl)
-  past_fourth (suc (suc (suc zero))) o p q r = absurd (r refl)
-  past_fourth (suc (suc (suc (suc n)))) o p q r = refl
 
 pub some_at : {A : Type 0} (n : ℕ) (a b c d : Option A) → is_some (pick n a b c d None) ≡ has_at n (is_some a) (is_some b) (is_some c) (is_some d)
 some_at zero a b c d = refl
@@ -61,7 +23,3 @@ has_some stores a b c d h n =
 
 pub same_slots : {D : Type 0} {g : _} (old new : FleetStores D g) → HasStores (is_some old.first) (is_some old.second) (is_some old.third) (is_some old.fourth) new → SameSlots old new
 same_slots old new h n = has_some new _ _ _ _ h n ∙ sym (some_at n old.first old.second old.third old.fourth)
-
--- by way of others
-pub slots_by : {D : Type 0} {g : _} (old new : FleetStores D g) (a b c d : Bool) → (is_some old.first ≡ a) × (is_some old.second ≡ b) × (is_some old.third ≡ c) × (is_some old.fourth ≡ d) → HasStores a b c d new → SameSlots old new
-slots_by old new a b c d e h n = has_some new a b c d h n ∙ sym (has_some old a b c d e n)

@@ -7,6 +7,7 @@ use Rattle.std.proofs.lemmas.List.{length-map, map-append, take_more}
 use Rattle.std.proofs.Math.Seq.{map-set_same}
 use Rattle.once_cell.specs.declared.race.note.Note.{Note}
 use Rattle.store_share.specs.declared.rev.Rev.{Rev}
+use Rattle.store_share.proofs.Showing.{some_is}
 
 abbrev pub Cells : List (Note Rev) → List ℕ
 Cells ns = map (λ k. k.cell) ns
@@ -31,9 +32,6 @@ in_map f [] i x h = absurd (cc)
 in_map f (y ∷ ys) zero x h = ap (λ o. option_and_then (λ z. Some (f z)) o) h
 in_map f (y ∷ ys) (suc i) x h = in_map f ys i x h
 
-some_same : {X : Type 0} (a b : X) → Some a ≡ Some b → a ≡ b
-some_same a b e = cc
-
 -- a note is for one of the cells
 pub within : (ns : List (Note Rev)) (cells : List ℕ) (i : ℕ) → Cells ns ≡ cells → i < length cells → i < length ns
 within ns cells i e h = omega (arith, length-map ns (λ (k : Note Rev). k.cell), ap length e, h)
@@ -46,7 +44,7 @@ known_of ns i n h e = ap (option_and_then (λ (k : Note Rev). k.known)) (stands 
 
 pub same_cell : (ms fs : List (Note Rev)) (i : ℕ) (m t : Note Rev) → Cells ms ≡ Cells fs → i < length (Cells fs) → m ≡ slice_index_or ms i m → t ≡ slice_index_or fs i t → t.cell ≡ m.cell
 same_cell ms fs i m t e h em et =
-    some_same t.cell m.cell
+    some_is t.cell m.cell
     (sym (in_map (λ (k : Note Rev). k.cell) fs i t (stands fs i t (within fs (Cells fs) i refl h) et))
     ∙ ap (λ cs. slice_get cs i) (sym e)
     ∙ in_map (λ (k : Note Rev). k.cell) ms i m (stands ms i m (within ms (Cells fs) i e h) em))
@@ -83,7 +81,7 @@ none_then ns n items p all e r = ap (λ ks. Known ks r) p ∙ none_more ns n all
 -- where the new note knows what the old one knew, all is kept
 pub kept_all : (ns : List (Note Rev)) (i : ℕ) (m n : Note Rev) → slice_get ns i ≡ Some m → ((x : Rev) → m.known ≡ Some x → n.known ≡ Some x) → (r : ℕ) (x : Rev) → Known ns r ≡ Some x → Known (slice_set ns i n) r ≡ Some x
 kept_all [] i m n at k r x h = h
-kept_all (y ∷ ys) zero m n at k zero x h = k x (sym (ap (λ (z : Note Rev). z.known) (some_same y m at)) ∙ h)
+kept_all (y ∷ ys) zero m n at k zero x h = k x (sym (ap (λ (z : Note Rev). z.known) (some_is y m at)) ∙ h)
 kept_all (y ∷ ys) zero m n at k (suc r) x h = h
 kept_all (y ∷ ys) (suc i) m n at k zero x h = h
 kept_all (y ∷ ys) (suc i) m n at k (suc r) x h = kept_all ys i m n at k r x h

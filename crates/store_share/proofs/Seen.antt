@@ -1,5 +1,5 @@
 -- What notes know of the revisions that were seen.
-use Rattle.std.proofs.Common.{zero, suc, ◌≡◌, ◌⊎◌, inl, inr, ◌<◌, ◌≤◌, ◌+◌, ℕ, List, length, Option, Some, None, IsSome, refl, ap, ◌∙◌, arith}
+use Rattle.std.proofs.Common.{zero, suc, ◌≡◌, ◌⊎◌, inl, inr, ◌<◌, ◌≤◌, ◌+◌, ℕ, List, length, Option, Some, None, refl, ap, ◌∙◌, arith}
 use Rattle.std.specs.Prelude.{slice_get}
 use Rattle.std.specs.Option.{option_map, option_and_then}
 use Rattle.dump_load.specs.declared.change.Change.{Change}
@@ -25,11 +25,6 @@ pub known_numbers : (r : Repository) (k : ℕ → Option Rev) (head : ℕ) → l
 known_numbers r k head sets within all i le =
     let y = rev_there r i sets (omega (arith, within, le)) in
     ap number_in (all i (omega (arith, le))) ∙ numbered r i y.0 y.1
-
--- so they know something
-pub some_known : (o : Option Rev) (i : ℕ) → number_in o ≡ Some i → IsSome o
-some_known None i e = absurd (cc)
-some_known (Some v) i e = search
 
 pub has_known : (o : Option Rev) (i : ℕ) → number_in o ≡ Some i → (x : Rev) × (o ≡ Some x) × (x.number ≡ i)
 has_known None i e = absurd (cc)

@@ -8,7 +8,7 @@ use Rattle.editor_ends.proofs.Walks.{own_is}
 use Rattle.editor_ends.proofs.plan.advance.Goals as goal
 
 pub returns-clause-walked : goal.returns-clause-walked
-returns-clause-walked c = walked_more c.args.revision.now.trees.now c.args.revision.now.set.now c.args.progress.now.next c.args.progress.now.tree c.requires.walked c.index-set-progress.result c.requires.here c.index-set-progress.is c.requires.normal (sym c.in_default.ensures) c.step.new.tree c.in_ok-step.ensures
+returns-clause-walked c = walked_more c.args.revision.now.trees.now c.args.revision.now.set.now c.args.progress.now.next c.args.progress.now.tree c.requires.ready.walked c.index-set-progress.result c.requires.here c.index-set-progress.is c.requires.ready.normal (sym c.in_default.ensures) c.step.new.tree c.in_ok-step.ensures
 
 pub returns-clause-plan : goal.returns-clause-plan
 returns-clause-plan c d e =
@@ -22,9 +22,9 @@ returns-clause-faultless c d e =
 
 pub step-requires-clause-whole : goal.step-requires-clause-whole
 step-requires-clause-whole c =
-    (walked_whole c.args.revision.now.trees.now c.args.revision.now.set.now c.args.progress.now.next c.args.progress.now.tree c.requires.walked c.index-set-progress.result c.requires.here c.index-set-progress.is c.requires.normal).0
+    (walked_whole c.args.revision.now.trees.now c.args.revision.now.set.now c.args.progress.now.next c.args.progress.now.tree c.requires.ready.walked c.index-set-progress.result c.requires.here c.index-set-progress.is c.requires.ready.normal).0
 
 pub returns-in-Some-clause-own : goal.returns-in-Some-clause-own
 returns-in-Some-clause-own c =
     own_is c.args.revision.now.trees.now c.args.revision.now.set.now c.from.result c.in-Some.fault c.from.ensures
-    (walked_fault c.args.revision.now.trees.now c.args.revision.now.set.now c.args.progress.now.next c.args.progress.now.tree c.requires.walked c.index-set-progress.result c.requires.here c.index-set-progress.is c.in-Some.fault (sym c.in-Some.ensures))
+    (walked_fault c.args.revision.now.trees.now c.args.revision.now.set.now c.args.progress.now.next c.args.progress.now.tree c.requires.ready.walked c.index-set-progress.result c.requires.here c.index-set-progress.is c.in-Some.fault (sym c.in-Some.ensures))

@@ -21,7 +21,7 @@ pub returns-then-names-clause-later : goal.returns-then-names-clause-later
 returns-then-names-clause-later g c =
     let n = c.requires.child in
     let longer : length c.args.path.now < length n.change.path = omega (arith, c.if-names.true, ap (λ x. length x.path) (c.index-set-progress.is ∙ get_or_from_slice_get c.args.revision.now.set.now c.args.progress.now.next n.change c.index-set-progress.result n.is), ap length c.names.ensures.names, ap length c.names-2.ensures.names) in
-    later_here c.args.revision.now.set.now c.args.progress.now.next n.change c.args.path.now c.requires.normal n.is (below_is_later c.args.path.now n.change.path n.under longer)
+    later_here c.args.revision.now.set.now c.args.progress.now.next n.change c.args.path.now c.requires.ready.normal n.is (below_is_later c.args.path.now n.change.path n.under longer)
 
 pub returns-in_err-open_dir-clause-halts : goal.returns-in_err-open_dir-clause-halts
 returns-in_err-open_dir-clause-halts g c =
@@ -48,19 +48,19 @@ returns-clause-halts g c =
     let x = n.change in
     halt_before g.E.Editor.shows g.E.Editor.began g.E.Editor.refuses c.args.revision.now.trees.now c.args.revision.now.set.now c.args.editor.now (calls_with c.args.revision.now.trees.now c.in_ok-plan.plan.file c.in_ok-plan.plan.old x) _ (left c.args.revision.now.trees.now c.args.revision.now.set.now c.args.progress.now.next (g.E.Editor.dir_path c.args.up.now)) c.show_change.result
     (subst (λ x. IfErr c.show_change.result (Stops g.E.Editor.shows g.E.Editor.began g.E.Editor.refuses c.args.editor.now (calls_with c.args.revision.now.trees.now c.in_ok-plan.plan.file c.in_ok-plan.plan.old x))) here c.show_change.ensures.stops)
-    (next-shown c.args.revision.now.trees.now c.args.revision.now.set.now c.args.progress.now.next (g.E.Editor.dir_path c.args.up.now) c.args.path.now n (omega (arith, c.if-names.false, ap (λ x. length x.path) (c.index-set-progress.is ∙ get_or_from_slice_get c.args.revision.now.set.now c.args.progress.now.next n.change c.index-set-progress.result n.is), ap length c.names.ensures.names, ap length c.names-2.ensures.names)) (map.get c.args.progress.now.tree) (λ k q. c.requires.walked.is q k) c.in_ok-plan.plan.file plan.0 c.in_ok-plan.plan.old plan.1)
+    (next-shown c.args.revision.now.trees.now c.args.revision.now.set.now c.args.progress.now.next (g.E.Editor.dir_path c.args.up.now) c.args.path.now n (omega (arith, c.if-names.false, ap (λ x. length x.path) (c.index-set-progress.is ∙ get_or_from_slice_get c.args.revision.now.set.now c.args.progress.now.next n.change c.index-set-progress.result n.is), ap length c.names.ensures.names, ap length c.names-2.ensures.names)) (map.get c.args.progress.now.tree) (λ k q. c.requires.ready.walked.is q k) c.in_ok-plan.plan.file plan.0 c.in_ok-plan.plan.old plan.1)
 
 pub returns-clause-later : goal.returns-clause-later
 returns-clause-later g c =
     let n = c.requires.child in
-    let same = later_child c.args.revision.now.set.now c.args.progress.now.next c.advance.new.progress.next (g.E.Editor.dir_path c.args.up.now) c.args.path.now n c.requires.normal c.in_ok-plan.ensures.next (omega (arith, c.if-names.false, ap (λ x. length x.path) (c.index-set-progress.is ∙ get_or_from_slice_get c.args.revision.now.set.now c.args.progress.now.next n.change c.index-set-progress.result n.is), ap length c.names.ensures.names, ap length c.names-2.ensures.names)) in
+    let same = later_child c.args.revision.now.set.now c.args.progress.now.next c.advance.new.progress.next (g.E.Editor.dir_path c.args.up.now) c.args.path.now n c.requires.ready.normal c.in_ok-plan.ensures.next (omega (arith, c.if-names.false, ap (λ x. length x.path) (c.index-set-progress.is ∙ get_or_from_slice_get c.args.revision.now.set.now c.args.progress.now.next n.change c.index-set-progress.result n.is), ap length c.names.ensures.names, ap length c.names-2.ensures.names)) in
     for_each_ok c.show_change.result (g.E.Editor.dir_path c.args.up.now ≡ g.E.Editor.dir_path c.args.up.now) (IsLater c.args.revision.now.set.now c.advance.new.progress.next c.args.path.now) refl same
 
 pub returns-clause-shown : goal.returns-clause-shown
 returns-clause-shown g c =
     let here = c.index-set-progress.is ∙ get_or_from_slice_get c.args.revision.now.set.now c.args.progress.now.next c.requires.child.change c.index-set-progress.result c.requires.child.is in
     let plan = c.in_ok-plan.ensures.plan c.requires.child.change c.requires.child.is in
-    next-entered c.args.revision.now.trees.now c.args.revision.now.set.now c.args.progress.now.next (g.E.Editor.dir_path c.args.up.now) c.args.path.now c.requires.child c.advance.new.progress.next c.in_ok-plan.ensures.next (omega (arith, c.if-names.false, ap (λ x. length x.path) (c.index-set-progress.is ∙ get_or_from_slice_get c.args.revision.now.set.now c.args.progress.now.next c.requires.child.change c.index-set-progress.result c.requires.child.is), ap length c.names.ensures.names, ap length c.names-2.ensures.names)) (map.get c.args.progress.now.tree) (λ k q. c.requires.walked.is q k) c.in_ok-plan.plan.file plan.0 c.in_ok-plan.plan.old plan.1
+    next-entered c.args.revision.now.trees.now c.args.revision.now.set.now c.args.progress.now.next (g.E.Editor.dir_path c.args.up.now) c.args.path.now c.requires.child c.advance.new.progress.next c.in_ok-plan.ensures.next (omega (arith, c.if-names.false, ap (λ x. length x.path) (c.index-set-progress.is ∙ get_or_from_slice_get c.args.revision.now.set.now c.args.progress.now.next c.requires.child.change c.index-set-progress.result c.requires.child.is), ap length c.names.ensures.names, ap length c.names-2.ensures.names)) (map.get c.args.progress.now.tree) (λ k q. c.requires.ready.walked.is q k) c.in_ok-plan.plan.file plan.0 c.in_ok-plan.plan.old plan.1
     g.E.Editor.shows g.E.Editor.dir_path c.args.editor.now c.show_change.new.editor c.show_change.result
     (subst (λ x. OnOk c.show_change.result (Adds g.E.Editor.shows c.args.editor.now c.show_change.new.editor (calls_with c.args.revision.now.trees.now c.in_ok-plan.plan.file c.in_ok-plan.plan.old x))) here c.show_change.ensures.shown)
     (subst (λ x. IfOk c.show_change.result (λ o. MatchOption o (rests_with c.in_ok-plan.plan.file x ≡ above x.path) (λ d. (g.E.Editor.dir_path d ≡ x.path) × (rests_with c.in_ok-plan.plan.file x ≡ x.path)))) here c.show_change.ensures.rests)
