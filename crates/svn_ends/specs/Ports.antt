@@ -1,10 +1,14 @@
 -- What a port over a share is to its caller.
-use Rattle.std.specs.Prelude.{ℕ, Bool, List, Option, Some, None}
+use Rattle.std.specs.Prelude.{◌≡◌, ℕ, Bool, List, Option, Some, None, Result, take, IfErr}
 use Rattle.node_base.specs.Tree.{PathMap}
+use Rattle.node_base.specs.declared.refusal.Refusal.{Refusal}
 use Rattle.repo_core.specs.Repository.{Repository}
-use Rattle.ra_serve.specs.Ports.{Goes, Stays}
+use Rattle.ra_serve.specs.Ports.{Goes, MayRefuse, Stays}
 use Rattle.ra_serve.specs.declared.fault.PortFault.{PortFault}
+use Rattle.store_share.specs.Chains.{trees_known}
+use Rattle.store_share.specs.Seats.{known_by, seen_by}
 use Rattle.store_share.specs.declared.seat.ReaderSeat.{ReaderSeat}
+use Rattle.svn_ends.specs.Seats.{Misses}
 use Rattle.svn_ends.specs.declared.port.SharePort.{SharePort}
 
 -- its seat
@@ -42,6 +46,19 @@ GoesOn old new = Goes (takes_none old) (takes_none new) (refusals_of old) (refus
 -- and the repository is as little known as before
 abbrev pub StaysSo : {R L S : Type 0} {r : _} → SharePort R L S r → SharePort R L S r → Type 0
 StaysSo old new = Stays (repository_in old) (repository_in new) (takes_none old) (takes_none new) (refusals_of old) (refusals_of new)
+
+-- a refused call: what is due of the repository, or the port's own refusal, which it counts
+abbrev pub RefusesFor : {R L S T : Type 0} {r : _} → SharePort R L S r → SharePort R L S r → (Repository → Option Refusal) → Result T PortFault → Type 0
+RefusesFor old new due result =
+    (x : Repository) → repository_in old ≡ Some x → IfErr result (λ f. MayRefuse (refusals_of old) (refusals_of new) f (due x))
+
+-- a revision is refused: the seat hasn't seen so many, or memory ran out, which the port counts
+abbrev pub RefusesUnseen : {R L S T : Type 0} {r : _} → SharePort R L S r → SharePort R L S r → ℕ → Result T PortFault → Type 0
+RefusesUnseen old new number result = IfErr result (Misses number (seen_by (seat_of new)) (refusals_of old) (refusals_of new))
+
+-- of the trees that it lends those below a number are what its seat knows there
+abbrev pub LendsBelow : {R L S : Type 0} {r : _} → SharePort R L S r → ℕ → Type 0
+LendsBelow p number = take number (trees_lent_by p) ≡ trees_known (known_by (seat_of p)) number
 
 -- the first refusal, behind another one
 abbrev pub first_then : Option PortFault → PortFault → Option PortFault
