@@ -6,5 +6,4 @@ pub mod Loans
 pub mod Mirroring
 pub mod Opening
 pub mod Pulled
-pub mod Served
 pub mod Upgrading

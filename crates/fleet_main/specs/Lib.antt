@@ -8,4 +8,3 @@ pub mod Loans
 pub mod Making
 pub mod Opening
 pub mod Pulling
-pub mod Serving

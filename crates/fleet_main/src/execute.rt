@@ -487,7 +487,7 @@ pub fn run<F: Folders, I: Input, O: Output + Drop, E: Output>(
 
 /// The status of a command that was refused, with the refusal's line. One that can't be written is lost: the status
 /// tells.
-pub(crate) fn refused<E: Output>(refusal: &Refusal, errors: &mut E) -> u8
+pub fn refused<E: Output>(refusal: &Refusal, errors: &mut E) -> u8
     ensures status { result ≡ 1 }
     ensures line { TellsLine E.Output errors.old errors.new refusal.now }
 {

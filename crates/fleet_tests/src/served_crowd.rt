@@ -19,7 +19,8 @@ use std::sync::Wait;
 use std::thread;
 use std::thread::Threads;
 use std::time::{Clock, Duration};
-use svn_ends::{Address, Source, run_work_from, serve_mirror};
+use svn_ends::{Source, run_work_from};
+use svn_server::{Address, serve_mirror};
 
 // How many clients each server has, and how many runs each of them makes, over a connection each.
 const CLIENTS: u64 = 2;

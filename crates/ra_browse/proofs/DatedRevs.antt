@@ -5,12 +5,13 @@ use Rattle.std.proofs.lemmas.Bool.Decides.{nat_tests}
 use Rattle.node_base.specs.Props.{PropMap}
 use Rattle.dump_load.specs.Faults.{fault_if}
 use Rattle.repo_core.specs.Repository.{Repository, head_of, props_at}
-use Rattle.ra_browse.specs.declared.denial.Denial.TheVariants as denial
-use Rattle.ra_browse.specs.Answers.{dated, dated_denied, no_revision}
+use Rattle.ra_denial.specs.Denials.{no_revision}
+use Rattle.ra_denial.specs.Stops.{Comes}
+use Rattle.ra_denial.specs.declared.denial.Denial.TheVariants as denial
+use Rattle.ra_denial.specs.declared.stop.Stop.{Stop}
+use Rattle.ra_browse.specs.Answers.{dated, dated_denied}
 use Rattle.ra_browse.specs.Dates.{is_by, is_date, newest_by}
 use Rattle.ra_browse.specs.Laws.{IsNewestBy}
-use Rattle.ra_browse.specs.Tellings.{Comes}
-use Rattle.ra_browse.specs.declared.stop.Stop.{Stop}
 use Rattle.ra_browse.proofs.Exits.{only_one, first_one, stops_later}
 
 -- ---- one revision less

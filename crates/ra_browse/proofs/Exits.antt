@@ -24,14 +24,16 @@ use Rattle.ra_serve.specs.Answers.{asked, node_in, refused}
 use Rattle.ra_serve.specs.Ports.{refusal_of, IsOwn, tree_of}
 use Rattle.ra_serve.specs.Sessions.{identity_text}
 use Rattle.ra_serve.proofs.Causes.{none_is_not, rose_later}
-use Rattle.ra_browse.specs.declared.denial.Denial.{Denial}
-use Rattle.ra_browse.specs.declared.stop.Stop.{Stop}
-use Rattle.ra_browse.specs.declared.stop.Stop.TheVariants as stop
+use Rattle.ra_denial.specs.Denials.{denied, unless_denied, no_revision, dir_denied}
+use Rattle.ra_denial.specs.Stops.{MayStop}
+use Rattle.ra_denial.specs.Writing.{TellsStop}
+use Rattle.ra_denial.specs.declared.denial.Denial.{Denial}
+use Rattle.ra_denial.specs.declared.stop.Stop.{Stop}
+use Rattle.ra_denial.specs.declared.stop.Stop.TheVariants as stop
 use Rattle.ra_browse.specs.declared.look.Seen.{Seen}
-use Rattle.ra_browse.specs.Denials.{denied, unless_denied}
 use Rattle.ra_browse.specs.Histories.{Nothing, listed}
-use Rattle.ra_browse.specs.Answers.{no_revision, made_for, stat_told, file_told, file_denied, dir_told, dir_denied, entries_wanted, is_answered, unanswered, asks_port, browse_due, browse_content, reply, told, no_ask, MayFind}
-use Rattle.ra_browse.specs.Tellings.{made_as, MayStop, TellsStop, IsSeen, AreEntries, Replied, Answered, Tells, Answers}
+use Rattle.ra_browse.specs.Answers.{made_for, stat_told, file_told, file_denied, dir_told, entries_wanted, is_answered, unanswered, asks_port, browse_due, browse_content, reply, told, no_ask, MayFind}
+use Rattle.ra_browse.specs.Tellings.{made_as, IsSeen, AreEntries, Replied, Answered, Tells, Answers}
 
 -- a command that asks for no history
 abbrev pub IsPlain : Repository → Url → Ask → Type 0

@@ -34,18 +34,21 @@ use Rattle.ra_serve.specs.Ports.{refusal_of, tree_of}
 use Rattle.ra_serve.proofs.Causes.{none_is_not}
 use Rattle.ra_log.specs.Versions.{versions_told}
 use Rattle.ra_log.proofs.Versions.{versions_front}
-use Rattle.ra_browse.specs.declared.denial.Denial.{Denial}
-use Rattle.ra_browse.specs.declared.denial.Denial.TheVariants as denial
-use Rattle.ra_browse.specs.declared.stop.Stop.{Stop}
-use Rattle.ra_browse.specs.declared.stop.Stop.TheVariants as stop
+use Rattle.ra_denial.specs.Denials.{denied, unless_denied, no_revision}
+use Rattle.ra_denial.specs.Stops.{MayStop, Comes, Denies, Decides}
+use Rattle.ra_denial.specs.Writing.{TellsBehind}
+use Rattle.ra_denial.specs.declared.denial.Denial.{Denial}
+use Rattle.ra_denial.specs.declared.denial.Denial.TheVariants as denial
+use Rattle.ra_denial.specs.declared.stop.Stop.{Stop}
+use Rattle.ra_denial.specs.declared.stop.Stop.TheVariants as stop
+use Rattle.ra_denial.proofs.Causes.{is_there}
+use Rattle.ra_denial.proofs.Stops.{denies_stops}
 use Rattle.ra_browse.specs.declared.versions.VersionsSought.{VersionsSought}
-use Rattle.ra_browse.specs.Denials.{denied, unless_denied}
 use Rattle.ra_browse.specs.Histories.{Found, Nothing, Stood, Logged, PastLimits, newer, down_to, up_to, AreVersions, FindsVersions, FindsVersionsIf, places_of, versions_of, found_denied}
-use Rattle.ra_browse.specs.Answers.{no_revision, place_denied, file_denied, version_denied, versions_denied}
-use Rattle.ra_browse.specs.Tellings.{MayStop, Comes, TellsBehind, TellsVersions, AreRows, AreVersionsSought, Replied, Tells, Denies, Decides}
-use Rattle.ra_browse.proofs.Causes.{is_there}
+use Rattle.ra_browse.specs.Answers.{place_denied, file_denied, version_denied, versions_denied}
+use Rattle.ra_browse.specs.Tellings.{TellsVersions, AreRows, AreVersionsSought, Replied, Tells}
 use Rattle.ra_browse.proofs.Fronts.{line_whole}
-use Rattle.ra_browse.proofs.Located.{both_calm, second_stops, denies_stops}
+use Rattle.ra_browse.proofs.Located.{both_calm, second_stops}
 use Rattle.ra_browse.proofs.Logged.{later_comes, first_calm, calm_stops}
 use Rattle.ra_browse.proofs.LogFronts.{asked_whole, asked_front}
 

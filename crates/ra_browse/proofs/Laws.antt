@@ -11,8 +11,9 @@ use Rattle.browse_wire.specs.AskReading.{Reading}
 use Rattle.browse_wire.specs.Urls.{Url, url_read}
 use Rattle.browse_wire.specs.declared.url.UrlFault.{UrlFault}
 use Rattle.ra_serve.specs.Answers.{asked, node_in}
-use Rattle.ra_browse.specs.Denials.{unless_denied}
-use Rattle.ra_browse.specs.Answers.{no_revision, made_of, made_for, moved, moved_to, behind, reply, stat_told, browse_content}
+use Rattle.ra_denial.specs.Denials.{unless_denied, no_revision}
+use Rattle.ra_denial.specs.Places.{moved_to}
+use Rattle.ra_browse.specs.Answers.{made_of, made_for, moved, behind, reply, stat_told, browse_content}
 use Rattle.ra_browse.specs.Laws.{IsReparent}
 
 pub stat_told_node : (x : Repository) (at : Url) (p : Path) (n : Option ℕ) (d : Node) → no_revision x (asked x n) ≡ None → node_in x (asked x n) (at.1 ++ p) ≡ Some d → reply x at (Stat p n) ≡ spell (stat_told (Some d) (made_of x d.changed))

@@ -1,5 +1,4 @@
 pub mod Adding
-pub mod Causes
 pub mod Exits
 pub mod Spelled
 pub mod Entries

@@ -25,16 +25,19 @@ use Rattle.ra_serve.specs.declared.fault.ServeFault.{ServeFault}
 use Rattle.ra_serve.specs.Answers.{refused, node_in}
 use Rattle.ra_serve.specs.Ports.{refusal_of, tree_of}
 use Rattle.ra_serve.proofs.Causes.{rose_later, rose_sooner}
-use Rattle.ra_browse.specs.declared.denial.Denial.{Denial}
-use Rattle.ra_browse.specs.declared.denial.Denial.TheVariants as denial
+use Rattle.ra_denial.specs.Denials.{denied, unless_denied, no_revision}
+use Rattle.ra_denial.specs.Stops.{MayStop, Comes, Denies, Decides}
+use Rattle.ra_denial.specs.Writing.{TellsBehind}
+use Rattle.ra_denial.specs.declared.denial.Denial.{Denial}
+use Rattle.ra_denial.specs.declared.denial.Denial.TheVariants as denial
+use Rattle.ra_denial.specs.declared.stop.Stop.{Stop}
+use Rattle.ra_denial.specs.declared.stop.Stop.TheVariants as stop
+use Rattle.ra_denial.proofs.Causes.{is_there}
+use Rattle.ra_denial.proofs.Stops.{denies_stops}
 use Rattle.ra_browse.specs.declared.location.Sought.{Sought}
-use Rattle.ra_browse.specs.declared.stop.Stop.{Stop}
-use Rattle.ra_browse.specs.declared.stop.Stop.TheVariants as stop
-use Rattle.ra_browse.specs.Denials.{denied, unless_denied}
 use Rattle.ra_browse.specs.Histories.{Stood, PastLimits, FindsIf, newest, place_item, places_told, places_of, found_denied}
-use Rattle.ra_browse.specs.Answers.{no_revision, place_denied, stood_denied, locations_denied}
-use Rattle.ra_browse.specs.Tellings.{MayStop, Comes, TellsBehind, TellsLocations, IsSought, Replied, Tells, Denies, Decides}
-use Rattle.ra_browse.proofs.Causes.{is_there}
+use Rattle.ra_browse.specs.Answers.{place_denied, stood_denied, locations_denied}
+use Rattle.ra_browse.specs.Tellings.{TellsLocations, IsSought, Replied, Tells}
 use Rattle.ra_browse.proofs.Fronts.{sought_found}
 
 -- ---- calls one after another
@@ -58,12 +61,6 @@ second_stops p m n d e stop.OutOfMemory h k i = tt
 -- none did
 pub both_calm : (d e : Option Denial) → d ≡ None → e ≡ None → first_of (d ∷ e ∷ []) ≡ None
 both_calm d e h k = only_second d e h ∙ k
-
--- a call that asks no port stopped
-pub denies_stops : (p n : ℕ) (d : Option Denial) (s : Stop) → Denies d s → MayStop p n d s
-denies_stops p n d (stop.Denied w) h = h
-denies_stops p n d (stop.Port f) h = absurd h
-denies_stops p n d stop.OutOfMemory h = tt
 
 -- ---- what calls come to
 

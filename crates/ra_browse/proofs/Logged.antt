@@ -23,32 +23,30 @@ use Rattle.ra_serve.specs.declared.fault.ServeFault.{ServeFault}
 use Rattle.ra_serve.specs.Answers.{refused, asked}
 use Rattle.ra_serve.specs.Ports as port
 use Rattle.ra_serve.specs.Ports.{refusal_of, tree_of}
-use Rattle.ra_serve.proofs.Causes.{none_is_not, rose_later}
+use Rattle.ra_serve.proofs.Causes.{none_is_not}
 use Rattle.ra_history.specs.Logs.{IsTold}
 use Rattle.ra_history.specs.declared.range.LogRange.{LogRange}
 use Rattle.ra_log.specs.Entries.{entries_told}
-use Rattle.ra_browse.specs.declared.denial.Denial.{Denial}
-use Rattle.ra_browse.specs.declared.denial.Denial.TheVariants as denial
+use Rattle.ra_denial.specs.Denials.{denied, unless_denied, no_revision}
+use Rattle.ra_denial.specs.Stops.{MayStop, Comes, Denies, Decides}
+use Rattle.ra_denial.specs.Writing.{TellsBehind}
+use Rattle.ra_denial.specs.declared.denial.Denial.{Denial}
+use Rattle.ra_denial.specs.declared.denial.Denial.TheVariants as denial
+use Rattle.ra_denial.specs.declared.stop.Stop.{Stop}
+use Rattle.ra_denial.specs.declared.stop.Stop.TheVariants as stop
+use Rattle.ra_denial.proofs.Causes.{is_there}
+use Rattle.ra_denial.proofs.Stops.{denies_stops, later_stops}
 use Rattle.ra_browse.specs.declared.log.LogSought.{LogSought}
-use Rattle.ra_browse.specs.declared.stop.Stop.{Stop}
-use Rattle.ra_browse.specs.declared.stop.Stop.TheVariants as stop
-use Rattle.ra_browse.specs.Denials.{denied, unless_denied}
 use Rattle.ra_browse.specs.Histories.{Logged, PastLimits, FindsLogIf, newer, newest_logged, range_of, range_logged, paths_below, places_logged, numbers_of, entries_of, found_denied}
-use Rattle.ra_browse.specs.Answers.{no_revision, place_denied, paths_denied, logged_denied, log_denied}
-use Rattle.ra_browse.specs.Tellings.{MayStop, Comes, TellsBehind, TellsLogged, AreRows, IsLogSought, Replied, Tells, Denies, Decides}
-use Rattle.ra_browse.proofs.Causes.{is_there}
+use Rattle.ra_browse.specs.Answers.{place_denied, paths_denied, logged_denied, log_denied}
+use Rattle.ra_browse.specs.Tellings.{TellsLogged, AreRows, IsLogSought, Replied, Tells}
 use Rattle.ra_browse.proofs.Exits.{stops_later}
-use Rattle.ra_browse.proofs.Located.{both_calm, second_stops, denies_stops}
+use Rattle.ra_browse.proofs.Located.{both_calm, second_stops}
 use Rattle.ra_browse.proofs.LogFronts.{sought_log, sought_entries}
 
 -- ---- calls one after another
 
--- a call behind others stopped
-pub later_stops : (p m n : ℕ) (d : Option Denial) (s : Stop) → p ≤ m → MayStop m n d s → MayStop p n d s
-later_stops p m n d (stop.Denied w) h k = k
-later_stops p m n d (stop.Port f) h k = (k.0, rose_later p m n h k.1)
-later_stops p m n d stop.OutOfMemory h k = tt
-
+-- a call behind others
 pub later_comes : {A : Type 0} (p m n : ℕ) (d : Option Denial) (Is : A → Type 0) (r : Result A Stop) → p ≤ m → Comes m n d Is r → Comes p n d Is r
 later_comes p m n d Is (Ok a) h c = c
 later_comes p m n d Is (Err s) h c = later_stops p m n d s h c

@@ -13,12 +13,13 @@ use Rattle.ra_serve.specs.declared.fault.PortFault.{PortFault}
 use Rattle.ra_serve.specs.declared.fault.PortFault.TheVariants as fault
 use Rattle.ra_serve.specs.Ports as port
 use Rattle.ra_serve.specs.Ports.{MayRefuse}
+use Rattle.ra_denial.specs.Stops.{Comes}
+use Rattle.ra_denial.specs.declared.stop.Stop.{Stop}
+use Rattle.ra_denial.specs.declared.stop.Stop.TheVariants as stop
+use Rattle.ra_denial.proofs.Causes.{not_long, not_other}
 use Rattle.ra_browse.specs.declared.made.Made as declared
-use Rattle.ra_browse.specs.declared.stop.Stop.{Stop}
-use Rattle.ra_browse.specs.declared.stop.Stop.TheVariants as stop
 use Rattle.ra_browse.specs.Answers.{Made, made_in, made_of}
-use Rattle.ra_browse.specs.Tellings.{made_as, Comes}
-use Rattle.ra_browse.proofs.Causes.{not_long, not_other}
+use Rattle.ra_browse.specs.Tellings.{made_as}
 
 abbrev made_with : Option (List ℕ) → Option (List ℕ) → Made
 made_with date author = record { date = date; author = author }

@@ -1,6 +1,5 @@
 -- Steps of a session to another URL.
-use Rattle.std.proofs.Common.{◌≡◌, ℕ, Bool, true, false, not, List, Option, Some, None, Result, Ok, Err, refl, sym, ap, subst, ◌∙◌}
-use Rattle.std.proofs.lemmas.Slice.Eq.{bytes_eq-Decides}
+use Rattle.std.proofs.Common.{◌≡◌, ℕ, Bool, true, false, not, List, Option, Some, None, Result, Ok, Err, refl, sym, ap, subst}
 use Rattle.std.specs.Prelude.{IfOk, if◌then◌else◌}
 use Rattle.std.specs.Str.{bytes_eq}
 use Rattle.std.specs.Io.KnownBytes.{Appends}
@@ -8,52 +7,41 @@ use Rattle.node_base.specs.Path.{Path}
 use Rattle.dump_load.specs.Faults.{fault_if}
 use Rattle.ra_item.specs.Items.{spell}
 use Rattle.ra_wire.specs.Replies.{done}
-use Rattle.browse_wire.specs.Urls.{Url, MovedIs}
+use Rattle.browse_wire.specs.Urls.{Url}
 use Rattle.browse_wire.specs.declared.url.UrlFault.{UrlFault}
-use Rattle.browse_wire.specs.declared.url.UrlFault.TheVariants as url
 use Rattle.ra_serve.specs.declared.fault.ServeFault.{ServeFault}
-use Rattle.ra_browse.specs.declared.denial.Denial.TheVariants as denial
-use Rattle.ra_browse.specs.declared.stop.Stop.{Stop}
-use Rattle.ra_browse.specs.declared.stop.Stop.TheVariants as stop
-use Rattle.ra_browse.specs.Denials.{unless_denied}
-use Rattle.ra_browse.specs.Answers.{url_denied, moved_to}
-use Rattle.ra_browse.specs.Tellings.{url_stop, MayMove, TellsStop}
+use Rattle.ra_denial.specs.Denials.{unless_denied}
+use Rattle.ra_denial.specs.Places.{moved_to, url_denied}
+use Rattle.ra_denial.specs.Stops.{Denies}
+use Rattle.ra_denial.specs.Writing.{TellsStop}
+use Rattle.ra_denial.specs.declared.denial.Denial.{Denial}
+use Rattle.ra_denial.specs.declared.denial.Denial.TheVariants as denial
+use Rattle.ra_denial.specs.declared.stop.Stop.{Stop}
+use Rattle.ra_denial.specs.declared.stop.Stop.TheVariants as stop
+use Rattle.ra_browse.specs.Tellings.{MayMove}
 
-same : (a : List ℕ) → bytes_eq a a ≡ true
-same a = (bytes_eq-Decides a a).1 refl
+-- by the path of a URL of its root
+pub step_made : (at : Url) (path : Path) (read : Result Url UrlFault) → (url_denied at read ≡ None) × (path ≡ (moved_to at read).1) → (url_denied at read ≡ None) × ((at.0, path) ≡ moved_to at read)
+step_made at path (Err f) m = let e = m.0 in absurd cc
+step_made at path (Ok to) m = by (bytes_eq to.0 at.0) m.0 m.1
+  where
+    by : (b : Bool) → fault_if (not b) denial.OtherRoot ≡ None → path ≡ (if b then (at.0, to.1) else at).1 → (fault_if (not b) denial.OtherRoot ≡ None) × ((at.0, path) ≡ (if b then (at.0, to.1) else at))
+    by true e p = (e, ap (λ q. (at.0, q)) p)
+    by false e p = absurd cc
 
-not_true : (b : Bool) → (b ≡ true → ⊥) → b ≡ false
-not_true true h = absurd (h refl)
-not_true false h = refl
+-- a URL that leads nowhere
+stays_put : (at : Url) (d : Denial) (read : Result Url UrlFault) → url_denied at read ≡ Some d → at ≡ moved_to at read
+stays_put at d (Err f) e = refl
+stays_put at d (Ok to) e = by (bytes_eq to.0 at.0) e
+  where
+    by : (b : Bool) → fault_if (not b) denial.OtherRoot ≡ Some d → at ≡ (if b then (at.0, to.1) else at)
+    by true e = absurd cc
+    by false e = refl
 
--- to a URL of its root
-pub move_made : (at : Url) (path : Path) (read : Result Url UrlFault) → read ≡ Ok (at.0, path) → (url_denied at read ≡ None) × ((at.0, path) ≡ moved_to at read)
-move_made at path read e = (
-  ap (url_denied at) e ∙ ap (λ b. fault_if (not b) denial.OtherRoot) (same at.0),
-  sym (ap (moved_to at) e ∙ ap (λ b. if b then (at.0, path) else at) (same at.0)),
-)
-
--- to one of another
-move_other : (at : Url) (other : List ℕ) (path : Path) (read : Result Url UrlFault) → read ≡ Ok (other, path) → (other ≡ at.0 → ⊥) → (url_denied at read ≡ Some denial.OtherRoot) × (at ≡ at) × (at ≡ moved_to at read)
-move_other at other path read e d =
-    let b : bytes_eq other at.0 ≡ false = not_true (bytes_eq other at.0) (λ t. d ((bytes_eq-Decides other at.0).0 t)) in (
-      ap (url_denied at) e ∙ ap (λ b. fault_if (not b) denial.OtherRoot) b,
-      refl,
-      sym (ap (moved_to at) e ∙ ap (λ b. if b then (at.0, path) else at) b),
-    )
-
--- to none
-move_none : (at : Url) (f : UrlFault) (read : Result Url UrlFault) → read ≡ Err f → (url_denied at read ≡ Some denial.BadUrl) × (at ≡ at) × (at ≡ moved_to at read)
-move_none at f read e = (ap (url_denied at) e, refl, sym (ap (moved_to at) e))
-
--- whatever the reason
-pub move_refused : (at : Url) (f : UrlFault) (read : Result Url UrlFault) → MovedIs at.0 (Err f) read → MayMove at at read (Err (url_stop f))
-move_refused at url.OtherScheme read e = move_none at url.OtherScheme read e
-move_refused at url.NoHost read e = move_none at url.NoHost read e
-move_refused at url.TooLong read e = move_none at url.TooLong read e
-move_refused at url.BadPath read e = move_none at url.BadPath read e
-move_refused at url.OtherRoot read e = move_other at e.0 e.1 read e.2 e.3
-move_refused at url.OutOfMemory read e = refl
+pub step_refused : (at : Url) (read : Result Url UrlFault) (s : Stop) → Denies (url_denied at read) s → MayMove at at read (Err s)
+step_refused at read (stop.Denied d) h = (h, refl, stays_put at d read h)
+step_refused at read (stop.Port f) h = h
+step_refused at read stop.OutOfMemory h = refl
 
 -- as it is told
 pub step_told : (old new : Url) (read : Result Url UrlFault) (before now : Option (List ℕ)) → (url_denied old read ≡ None) × (new ≡ moved_to old read) → Appends before now (spell done) → Appends before now (unless_denied (url_denied old read) (spell done))

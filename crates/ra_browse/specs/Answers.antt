@@ -1,8 +1,7 @@
 -- What a reading client's commands are answered, by what stands in the repository and where the session stands.
-use Rattle.std.specs.Prelude.{◌≡◌, ℕ, ◌==◌, nat_le, nat_lt, not, ◌&&◌, is_none, is_some, Bool, true, false, List, [], ◌∷◌, ◌++◌, map, length, Option, Some, None, unwrap_or, Ok, Err, codes, if◌then◌else◌}
+use Rattle.std.specs.Prelude.{◌≡◌, ℕ, ◌==◌, nat_lt, not, ◌&&◌, is_none, is_some, Bool, true, false, List, [], ◌∷◌, ◌++◌, map, length, Option, Some, None, unwrap_or, Ok, Err, codes, if◌then◌else◌}
 use Rattle.std.specs.Fmt.{decimal}
 use Rattle.std.specs.Option.{option_map}
-use Rattle.std.specs.Str.{bytes_eq}
 use Rattle.std.specs.FinMap as finite
 use Rattle.md5.specs.Md5.{md5}
 use Rattle.hex.specs.Hex.{encode_lower}
@@ -29,20 +28,16 @@ use Rattle.ra_serve.specs.declared.fault.PortFault.{PortFault}
 use Rattle.ra_serve.specs.Answers.{asked, node_in, refused, text_wanted}
 use Rattle.ra_serve.specs.Ports.{refusal_of, tree_of, IsOwn}
 use Rattle.ra_serve.specs.Sessions.{identity_text}
-use Rattle.browse_wire.specs.declared.url.UrlFault.{UrlFault}
-use Rattle.std.specs.Prelude.{Result}
-use Rattle.ra_browse.specs.declared.denial.Denial.{Denial}
-use Rattle.ra_browse.specs.declared.denial.Denial.TheVariants as denial
+use Rattle.ra_denial.specs.Denials.{denied, dir_denied, no_revision, unless_denied}
+use Rattle.ra_denial.specs.Halts.{is_looked_at}
+use Rattle.ra_denial.specs.Places.{moved_to, url_denied}
+use Rattle.ra_denial.specs.declared.denial.Denial.{Denial}
+use Rattle.ra_denial.specs.declared.denial.Denial.TheVariants as denial
 use Rattle.path_history.specs.Places.{place}
 use Rattle.ra_browse.specs.Dates.{is_date, newest_by}
-use Rattle.ra_browse.specs.Denials.{denied, unless_denied}
-use Rattle.ra_browse.specs.Histories.{Found, Nothing, FindsIf, FindsLogIf, FindsVersionsIf, is_looked_at, newer, newest, newest_logged, range_logged, paths_below, places_logged, listed, found_denied}
+use Rattle.ra_browse.specs.Histories.{Found, Nothing, FindsIf, FindsLogIf, FindsVersionsIf, newer, newest, newest_logged, range_logged, paths_below, places_logged, listed, found_denied}
 
 -- ---- looking
-
--- a revision above the head
-abbrev pub no_revision : Repository → ℕ → Option Denial
-no_revision x n = fault_if (nat_le (length x.revisions) n) denial.NoRevision
 
 -- when a revision was made, and by whom
 pub record Made : Type 0 where
@@ -120,11 +115,6 @@ file_told n props contents identity m f = unless_denied (file_denied f) (file_by
 
 -- ---- directories
 
--- a directory that is looked at: nothing is there, or a file
-abbrev pub dir_denied : Option Node → Option Denial
-dir_denied None = Some denial.NoPath
-dir_denied (Some d) = fault_if (is_some d.text) denial.NotDir
-
 -- an entry, with when and by whom it was last changed
 abbrev pub entry_with : Name × Node → Made → Dirent
 entry_with c m = record { name = c.0; kind = kind_of c.1; size = length (unwrap_or c.1.text []); has_props = has_props c.1; created = c.1.changed; date = date_told m.date; author = m.author }
@@ -191,17 +181,6 @@ dated_denied x date = first_of (fault_if (not (is_date date)) denial.BadDate ∷
 -- the newest revision that has a date which isn't later
 abbrev pub dated : Repository → List ℕ → ℕ
 dated x date = newest_by (props_at x.revisions) date (head_of x.revisions)
-
--- ---- where the session stands
-
--- the root of the client's URL, and the path below it; another URL of that root moves it
-abbrev pub url_denied : Url → Result Url UrlFault → Option Denial
-url_denied at (Err f) = Some denial.BadUrl
-url_denied at (Ok to) = fault_if (not (bytes_eq to.0 at.0)) denial.OtherRoot
-
-abbrev pub moved_to : Url → Result Url UrlFault → Url
-moved_to at (Err f) = at
-moved_to at (Ok to) = if bytes_eq to.0 at.0 then (at.0, to.1) else at
 
 -- ---- the table
 
@@ -319,11 +298,3 @@ MayFind x at c h found = found ≡ Nothing
 abbrev pub MayHave : Repository → Url → Reading → Option PortFault → Found → Type 0
 MayHave x at (Ok c) h found = MayFind x at c h found
 MayHave x at (Err f) h found = found ≡ Nothing
-
-abbrev pub IsCalm : Option PortFault → Type 0
-IsCalm None = Unit {0}
-IsCalm (Some f) = ⊥
-
-abbrev pub halts_in : Option PortFault → ℕ
-halts_in None = 0
-halts_in (Some f) = 1

@@ -1,5 +1,5 @@
 -- What histories have, and how it is told.
-use Rattle.std.specs.Prelude.{◌≡◌, ℕ, not, Bool, true, false, nat_lt, is_none, ◌&&◌, List, [], ◌∷◌, ◌++◌, map, reverse, Option, Some, None, if◌then◌else◌}
+use Rattle.std.specs.Prelude.{◌≡◌, ℕ, not, Bool, true, false, nat_lt, List, [], ◌∷◌, ◌++◌, map, reverse, Option, Some, None, if◌then◌else◌}
 use Rattle.repo_core.specs.Repository.{Repository, trees_of}
 use Rattle.ra_item.specs.Items.{Item, row, spell, spell_all}
 use Rattle.browse_wire.specs.Asks.{Ask, Locations, Log, LogAsk, FileRevs}
@@ -17,9 +17,8 @@ use Rattle.ra_log.specs.Entries.{entries_told}
 use Rattle.ra_log.specs.Versions.{versions_told}
 use Rattle.node_base.specs.Path.{Path}
 use Rattle.ra_serve.specs.Answers.{asked}
-use Rattle.ra_serve.specs.declared.fault.PortFault.{PortFault}
-use Rattle.ra_browse.specs.declared.denial.Denial.{Denial}
-use Rattle.ra_browse.specs.declared.denial.Denial.TheVariants as denial
+use Rattle.ra_denial.specs.declared.denial.Denial.{Denial}
+use Rattle.ra_denial.specs.declared.denial.Denial.TheVariants as denial
 
 -- what was found of a history: nothing, where a command asks for none; where a node stood; which revisions changed some paths; or that a path of a line is past the limits
 pub data Found : Type 0 where
@@ -110,10 +109,6 @@ FindsVersions sets a first PastLimits = IsTooLong true sets a
 abbrev pub FindsVersionsIf : Bool → Sets → Place → ℕ → Found → Type 0
 FindsVersionsIf true sets a first found = FindsVersions sets a first found
 FindsVersionsIf false sets a first found = found ≡ Stood []
-
--- a history is looked at: nothing is denied, and the port refused nothing by itself
-abbrev pub is_looked_at : Option PortFault → Option Denial → Bool
-is_looked_at halt due = is_none halt && is_none due
 
 -- ---- how it is told
 

@@ -8,7 +8,8 @@ use Rattle.ra_item.specs.Items.{spell}
 use Rattle.browse_wire.specs.Asks.{Ask, Stat, Reparent}
 use Rattle.browse_wire.specs.Urls.{Url}
 use Rattle.ra_serve.specs.Answers.{asked, node_in}
-use Rattle.ra_browse.specs.Answers.{dated, no_revision, made_of, moved, reply, stat_told}
+use Rattle.ra_denial.specs.Denials.{no_revision}
+use Rattle.ra_browse.specs.Answers.{dated, made_of, moved, reply, stat_told}
 use Rattle.ra_browse.specs.Dates.{is_by}
 
 -- the node at the session's path and the one that is asked for, of the revision that is asked for

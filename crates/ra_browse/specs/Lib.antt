@@ -1,4 +1,3 @@
-pub mod Denials
 pub mod Histories
 pub mod Dates
 pub mod Answers

@@ -19,14 +19,16 @@ use Rattle.ra_serve.specs.declared.fault.PortFault.TheVariants as fault
 use Rattle.ra_serve.specs.declared.port.RepoPort.{Ghosts}
 use Rattle.ra_history.specs.declared.range.LogRange.{LogRange}
 use Rattle.ra_log.specs.Entries.{log_as}
-use Rattle.ra_browse.specs.Answers.{entry_of, log_denied, logged_denied, locations_denied, made_in, no_revision, paths_denied, place_denied, version_denied, versions_denied}
+use Rattle.ra_denial.specs.Denials.{no_revision}
+use Rattle.ra_denial.specs.Stops.{Comes, Decides, Finds}
+use Rattle.ra_denial.specs.declared.stop.Stop.{Stop}
+use Rattle.ra_denial.specs.declared.stop.Stop.TheVariants as stop
+use Rattle.ra_browse.specs.Answers.{entry_of, log_denied, logged_denied, locations_denied, made_in, paths_denied, place_denied, version_denied, versions_denied}
 use Rattle.ra_browse.specs.Histories.{newer, newest_logged, paths_below, range_logged, range_of}
-use Rattle.ra_browse.specs.Tellings.{AreRows, AreVersionsSought, Comes, Decides, Finds, IsLogSought, IsSought, made_as}
+use Rattle.ra_browse.specs.Tellings.{AreRows, AreVersionsSought, IsLogSought, IsSought, made_as}
 use Rattle.ra_browse.specs.declared.location.Sought.{Sought}
 use Rattle.ra_browse.specs.declared.log.LogSought.{LogSought}
 use Rattle.ra_browse.specs.declared.made.Made.{Made}
-use Rattle.ra_browse.specs.declared.stop.Stop.{Stop}
-use Rattle.ra_browse.specs.declared.stop.Stop.TheVariants as stop
 use Rattle.ra_browse.specs.declared.versions.VersionsSought.{VersionsSought}
 
 -- ---- of revisions

@@ -8,19 +8,17 @@ use Rattle.repo_core.specs.Repository.{Repository, trees_of}
 use Rattle.browse_wire.specs.Asks.{Ask, LogAsk}
 use Rattle.browse_wire.specs.AskReading.{Reading}
 use Rattle.browse_wire.specs.Urls.{Url}
-use Rattle.browse_wire.specs.declared.url.SessionUrl.{SessionUrl}
 use Rattle.browse_wire.specs.declared.url.UrlFault.{UrlFault}
-use Rattle.browse_wire.specs.declared.url.UrlFault.TheVariants as url
 use Rattle.ra_wire.specs.Answers.{dirent_as}
 use Rattle.ra_wire.specs.declared.dirent.Dirent as declared_dirent
 use Rattle.ra_serve.specs.declared.fault.PortFault.{PortFault}
-use Rattle.ra_serve.specs.declared.port.RepoPort.{Ghosts}
-use Rattle.ra_serve.specs.Answers.{refused, asked, node_in}
-use Rattle.ra_serve.specs.Ports.{Stays, IsOwn, refusal_of, tree_of}
-use Rattle.ra_browse.specs.declared.denial.Denial.{Denial}
-use Rattle.ra_browse.specs.declared.denial.Denial.TheVariants as denial
-use Rattle.ra_browse.specs.declared.stop.Stop.{Stop}
-use Rattle.ra_browse.specs.declared.stop.Stop.TheVariants as stop
+use Rattle.ra_serve.specs.Answers.{asked, node_in}
+use Rattle.ra_serve.specs.Ports.{tree_of}
+use Rattle.ra_denial.specs.Denials.{unless_denied}
+use Rattle.ra_denial.specs.Halts.{IsCalm}
+use Rattle.ra_denial.specs.Places.{url_denied, moved_to}
+use Rattle.ra_denial.specs.declared.stop.Stop.{Stop}
+use Rattle.ra_denial.specs.declared.stop.Stop.TheVariants as stop
 use Rattle.ra_browse.specs.declared.made.Made as declared_made
 use Rattle.ra_browse.specs.declared.look.Seen as declared_seen
 use Rattle.ra_item.specs.Items.{spell}
@@ -36,36 +34,17 @@ use Rattle.ra_log.specs.declared.rows.LogRows as declared_rows
 use Rattle.ra_browse.specs.declared.location.Sought as declared_sought
 use Rattle.ra_browse.specs.declared.log.LogSought as declared_log
 use Rattle.ra_browse.specs.declared.versions.VersionsSought as declared_versions
-use Rattle.ra_browse.specs.Denials.{denied, unless_denied}
 use Rattle.ra_browse.specs.Histories.{Found, FindsPlaces, FindsLog, FindsVersions, newest, places_below, places_told, places_of, numbers_of, found_denied}
-use Rattle.ra_browse.specs.Answers.{Made, made_for, told, answer, MayHalt, MayFind, MayHave, IsCalm, entries_wanted, url_denied, moved_to}
+use Rattle.ra_browse.specs.Answers.{Made, made_for, told, answer, MayHalt, MayFind, MayHave, entries_wanted}
 use Rattle.std.specs.Option.{option_map}
 use Rattle.std.specs.Prelude.{map}
 
 -- ---- as values are in code
 
-abbrev pub place_as : SessionUrl → Url
-place_as u = (u.root.items, u.path)
-
 abbrev pub made_as : declared_made.Made → Made
 made_as m = record { date = option_map (λ t. t.items) m.date; author = option_map (λ t. t.items) m.author }
 
 -- ---- what is looked for
-
--- why a call stopped: what is denied, or a refusal of the port's own, which it counts, or want of memory
-abbrev pub MayStop : ℕ → ℕ → Option Denial → Stop → Type 0
-MayStop before now due (stop.Denied d) = due ≡ Some d
-MayStop before now due (stop.Port f) = IsOwn f × Rose before now
-MayStop before now due stop.OutOfMemory = Unit {0}
-
--- what it came to: such a value where nothing is denied, or why it stopped
-abbrev pub Comes : {A : Type 0} → ℕ → ℕ → Option Denial → (A → Type 0) → Result A Stop → Type 0
-Comes before now due Is (Ok a) = (due ≡ None) × Is a
-Comes before now due Is (Err s) = MayStop before now due s
-
--- the same of a port, where its repository was known
-abbrev pub Finds : {P A : Type 0} → Ghosts P → (Repository → Option Denial) → (Repository → A → Type 0) → P → P → Result A Stop → Type 0
-Finds G due Is old new result = (x : Repository) → G.repository old ≡ Some x → Comes (G.refusals old) (G.refusals new) (due x) (Is x) result
 
 -- what stands at a path of a revision
 pub record IsSeen (x : Repository) (p : Path) (n : Option ℕ) (s : declared_seen.Seen) : Type 0 where
@@ -79,35 +58,13 @@ pub record IsSeen (x : Repository) (p : Path) (n : Option ℕ) (s : declared_see
 abbrev pub AreEntries : Repository → Bool → Path → PathMap → List declared_dirent.Dirent → Type 0
 AreEntries x wanted p tree es = map dirent_as es ≡ entries_wanted wanted x p tree
 
--- what is told where a call stopped: nothing for want of memory
-abbrev pub TellsStop : Option (List ℕ) → Option (List ℕ) → Stop → Type 0
-TellsStop before now (stop.Denied d) = Appends before now (denied d)
-TellsStop before now (stop.Port f) = Appends before now (refused (refusal_of f))
-TellsStop before now stop.OutOfMemory = ⊥
-
 -- ---- histories
-
--- a call that asks no port decided so: such a value where nothing is denied, or what is denied, or memory ran out
-abbrev pub Denies : Option Denial → Stop → Type 0
-Denies due (stop.Denied d) = due ≡ Some d
-Denies due (stop.Port f) = ⊥
-Denies due stop.OutOfMemory = Unit {0}
-
-abbrev pub Decides : {A : Type 0} → Option Denial → (A → Type 0) → Result A Stop → Type 0
-Decides due Is (Ok a) = (due ≡ None) × Is a
-Decides due Is (Err s) = Denies due s
 
 -- a place, the revisions that are asked for, and the sets up to the newest of all
 pub record IsSought (x : Repository) (a : Place) (ns : List ℕ) (s : declared_sought.Sought) : Type 0 where
   pub from : s.from ≡ a
   pub numbers : s.numbers.items ≡ ns
   pub sets : s.sets.items ≡ take (suc (newest a.revision ns)) x.sets
-
--- why a call stopped, as it is told behind other bytes
-pub record TellsBehind (front : List ℕ) (before now : Option (List ℕ)) (s : Stop) : Type 0 where
-  pub mid : Option (List ℕ)
-  pub told : Appends before mid front
-  pub stop : TellsStop mid now s
 
 -- what was found of the places, and whether it may be told, is told behind them
 pub record TellsFound (Is : Found → Type 0) (before now : Option (List ℕ)) : Type 0 where
@@ -183,15 +140,7 @@ abbrev pub Answers : {P W : Type 0} → (P → Option Repository) → (P → ℕ
 Answers repository refusals contents at read old new before now =
     (x : Repository) → repository old ≡ Some x → Answered x at read (Rose (refusals old) (refusals new)) (contents before) (contents now)
 
--- and the port's repository stays what it is
-abbrev pub PortStays : {P : Type 0} → Ghosts P → P → P → Type 0
-PortStays G old new = Stays (G.repository old) (G.repository new) (G.is_mirror old) (G.is_mirror new) (G.refusals old) (G.refusals new)
-
--- why a session stays where it is
-abbrev pub url_stop : UrlFault → Stop
-url_stop url.OutOfMemory = stop.OutOfMemory
-url_stop url.OtherRoot = stop.Denied denial.OtherRoot
-url_stop f = stop.Denied denial.BadUrl
+-- ---- where the session stands
 
 -- a step to another URL was made, or it was denied, or memory ran out, and then the session stands where it stood
 abbrev pub MayMove : Url → Url → Result Url UrlFault → Result (Unit {0}) Stop → Type 0

@@ -1,12 +1,11 @@
 -- What the calls that answer write.
 use Rattle.std.specs.Prelude.{ℕ, ◌∷◌, ◌++◌, [], Bool, IfOk, List, Option, Result, Some, map}
 use Rattle.std.specs.FinMap as finite
-use Rattle.std.specs.Io.KnownBytes.{Appends}
 use Rattle.std.specs.declared.io.Write.{Ghosts as WriteGhosts}
 use Rattle.uuid.specs.Text.{hyphenated_text, lower}
 use Rattle.node_base.specs.Path.{Name}
 use Rattle.node_base.specs.declared.node.Node.{Node}
-use Rattle.ra_item.specs.Items.{Item, Number, Text, spell}
+use Rattle.ra_item.specs.Items.{Item, Number, spell}
 use Rattle.ra_wire.specs.Answers.{dirent_as}
 use Rattle.ra_wire.specs.Replies.{answer_of, dirent, done, list, properties, string}
 use Rattle.ra_wire.specs.declared.dirent.Dirent.{Dirent}
@@ -23,15 +22,7 @@ use Rattle.ra_browse.specs.declared.made.Made.{Made}
 
 -- ---- a writer that comes back
 
--- at Ok these bytes are behind what it had
-abbrev pub TellsBytes : {W E : Type 0} → WriteGhosts W → W → List ℕ → Result W E → Type 0
-TellsBytes G out bytes result = IfOk result (λ w. Appends (G.contents out) (G.contents w) bytes)
-
--- at Ok an item is
-abbrev pub TellsItem : {W E : Type 0} → WriteGhosts W → W → Item → Result W E → Type 0
-TellsItem G out item result = TellsBytes G out (spell item) result
-
--- at Ok what a command is told is
+-- at Ok what a command is told is behind what it had
 abbrev pub Replies : {P W E : Type 0} → Ghosts P → WriteGhosts W → P → P → W → Url → Ask → Result W E → Type 0
 Replies G H old new out at c result = IfOk result (Tells G.repository G.refusals H.contents at c old new out)
 
@@ -42,10 +33,6 @@ AnswersItem G H old new out at read result = IfOk result (Answers G.repository G
 -- a list that has ended, and that all went well
 abbrev pub ended : List ℕ → List ℕ
 ended bytes = (bytes ++ spell end_item) ++ spell done
-
--- ( number text file line )
-abbrev pub cause_item : ℕ → List ℕ → Item
-cause_item n text = list (Number n ∷ Text text ∷ Text [] ∷ Number 0 ∷ [])
 
 -- ---- what was looked at
 

@@ -3,16 +3,11 @@
 //! [`answer::command_answer`] answers one command from any `RepoPort` of `ra_serve`. The session that asks stands at its
 //! client's URL: its paths are relative to it, and `reparent` moves it. No answer changes the repository.
 //!
-//! `specs/Answers` has what each command is denied and told.
+//! `specs/Answers` has what each command is denied and told. Why one isn't answered is told by `ra_denial`.
 #![tactic(auto)]
-
-pub use denial::Denial;
-pub use stop::{Stop, stopped};
-pub use told::{deny, tell, write_denied};
 
 pub mod answer;
 mod dated;
-mod denial;
 mod dir;
 mod file;
 pub mod law;
@@ -23,6 +18,4 @@ mod made;
 mod pieces;
 mod place;
 mod stat;
-mod stop;
-mod told;
 mod versions;

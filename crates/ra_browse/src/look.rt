@@ -6,13 +6,15 @@ ghost use Rattle.std.specs.FinMap as finite;
 ghost use Rattle.repo_core.specs.Repository.{Repository};
 ghost use Rattle.ra_serve.specs.Answers.{asked, node_in};
 ghost use Rattle.ra_serve.specs.Ports.{tree_of};
-ghost use Rattle.ra_browse.specs.Answers.{no_revision, made_for};
-ghost use Rattle.ra_browse.specs.Tellings.{made_as, Finds, PortStays, IsSeen};
+ghost use Rattle.ra_denial.specs.Denials.{no_revision};
+ghost use Rattle.ra_denial.specs.Stops.{Finds, PortStays};
+ghost use Rattle.ra_browse.specs.Answers.{made_for};
+ghost use Rattle.ra_browse.specs.Tellings.{made_as, IsSeen};
 
 use crate::made::{Made, made_at};
-use crate::stop::{Stop, stopped};
 use node_base::{Node, NodeName, NodePath, RevNo};
 use path_tree::Tree;
+use ra_denial::{Stop, stopped};
 use ra_serve::{RepoPort, tree_asked};
 use std::alloc::{AllocError, Global};
 use uuid::Uuid;

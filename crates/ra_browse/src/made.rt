@@ -4,12 +4,13 @@ ghost use Rattle.std.specs.Prelude.{◌≡◌, None, IfOk, MatchResult};
 ghost use Rattle.std.specs.Option.{option_map};
 ghost use Rattle.std.specs.FinMap as finite;
 ghost use Rattle.repo_core.specs.Repository.{Repository};
+ghost use Rattle.ra_denial.specs.Stops.{Finds, PortStays};
 ghost use Rattle.ra_browse.specs.Answers.{made_of, made_in, date_told};
 ghost use Rattle.ra_browse.specs.Seeking.{IsUnmade};
-ghost use Rattle.ra_browse.specs.Tellings.{made_as, Finds, PortStays};
+ghost use Rattle.ra_browse.specs.Tellings.{made_as};
 
-use crate::stop::Stop;
 use node_base::{Props, RevNo};
+use ra_denial::Stop;
 use ra_serve::{PortFault, RepoPort};
 use std::alloc::{AllocError, Global};
 

@@ -1,18 +1,16 @@
 //! Where a session stands.
 
-ghost use Rattle.std.specs.Prelude.{◌≡◌, None, IfOk, IfErr};
+ghost use Rattle.std.specs.Prelude.{◌≡◌, IfOk};
 ghost use Rattle.ra_item.specs.Items.{spell};
 ghost use Rattle.ra_wire.specs.Replies.{done};
 ghost use Rattle.browse_wire.specs.Urls.{url_read};
-ghost use Rattle.ra_browse.specs.Answers.{url_denied, moved_to};
-ghost use Rattle.ra_browse.specs.Denials.{unless_denied};
-ghost use Rattle.ra_browse.specs.Tellings.{place_as, url_stop, MayMove};
-ghost use Rattle.ra_browse.specs.Writing.{TellsBytes};
+ghost use Rattle.ra_denial.specs.Denials.{unless_denied};
+ghost use Rattle.ra_denial.specs.Places.{moved_to, place_as, url_denied};
+ghost use Rattle.ra_denial.specs.Writing.{TellsBytes};
+ghost use Rattle.ra_browse.specs.Tellings.{MayMove};
 
-use crate::denial::Denial;
-use crate::stop::Stop;
-use crate::told::tell;
-use browse_wire::url::{SessionUrl, UrlFault};
+use browse_wire::url::SessionUrl;
+use ra_denial::{Stop, path_at, tell};
 use ra_serve::ServeFault;
 use ra_wire::reply_writer::write_done;
 use std::alloc::Global;
@@ -43,22 +41,11 @@ pub fn reparent<W: Write + Drop>(
 fn step(alloc: Global, place: &mut SessionUrl, url: &[u8]) -> Result<(), Stop>
     ensures { MayMove (place_as place.old) (place_as place.new) (url_read url.now) result }
 {
-    match place.path_of(alloc, url) {
+    match path_at(alloc, place, url) {
         Ok(path) => {
             place.path = path;
             Ok(())
         }
-        Err(fault) => Err(stop_of(fault)),
-    }
-}
-
-// Why the session stays where it is.
-fn stop_of(fault: UrlFault) -> Stop
-    ensures { result ≡ url_stop fault }
-{
-    match fault {
-        UrlFault::OutOfMemory => Stop::OutOfMemory,
-        UrlFault::OtherRoot => Stop::Denied(Denial::OtherRoot),
-        _ => Stop::Denied(Denial::BadUrl),
+        Err(stop) => Err(stop),
     }
 }

@@ -8,9 +8,9 @@ use Rattle.repo_core.specs.Repository.{fresh}
 use Rattle.browse_wire.specs.declared.url.SessionUrl.{SessionUrl}
 use Rattle.ra_serve.specs.Tellings.{Adds}
 use Rattle.ra_serve.specs.declared.fault.End as declared
-use Rattle.ra_browse.specs.Tellings.{TellsStop}
-use Rattle.ra_browse.specs.declared.stop.Stop.{Stop}
-use Rattle.ra_browse.proofs.Adding.{stop_adds}
+use Rattle.ra_denial.specs.Writing.{TellsStop}
+use Rattle.ra_denial.specs.declared.stop.Stop.{Stop}
+use Rattle.ra_denial.proofs.Adding.{stop_adds}
 use Rattle.ra_reader.specs.Sessions.{greeting}
 use Rattle.ra_reader.specs.Serving.{Greets}
 use Rattle.ra_reader.specs.Standings.{Standing, told_at}

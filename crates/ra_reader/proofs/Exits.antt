@@ -24,14 +24,17 @@ use Rattle.browse_wire.specs.declared.fault.BrowseFault.TheVariants as fault
 use Rattle.browse_wire.specs.declared.url.SessionUrl.{SessionUrl}
 use Rattle.ra_serve.specs.declared.fault.ServeFault.{ServeFault}
 use Rattle.ra_serve.proofs.Causes.{none_is_not}
-use Rattle.ra_browse.specs.declared.denial.Denial.{Denial}
-use Rattle.ra_browse.specs.declared.denial.Denial.TheVariants as denial
-use Rattle.ra_browse.specs.declared.stop.Stop.{Stop}
-use Rattle.ra_browse.specs.declared.stop.Stop.TheVariants as stop
+use Rattle.ra_denial.specs.Denials.{denied, unless_denied}
+use Rattle.ra_denial.specs.Halts.{IsCalm}
+use Rattle.ra_denial.specs.Stops.{Denies}
+use Rattle.ra_denial.specs.Writing.{TellsStop}
+use Rattle.ra_denial.specs.declared.denial.Denial.{Denial}
+use Rattle.ra_denial.specs.declared.denial.Denial.TheVariants as denial
+use Rattle.ra_denial.specs.declared.stop.Stop.{Stop}
+use Rattle.ra_denial.specs.declared.stop.Stop.TheVariants as stop
 use Rattle.ra_browse.specs.Histories.{Nothing}
-use Rattle.ra_browse.specs.Answers.{IsCalm, MayFind, answer, behind, moved, no_ask}
-use Rattle.ra_browse.specs.Denials.{denied, unless_denied}
-use Rattle.ra_browse.specs.Tellings.{Answers, Denies, TellsStop}
+use Rattle.ra_browse.specs.Answers.{MayFind, answer, behind, moved, no_ask}
+use Rattle.ra_browse.specs.Tellings.{Answers}
 use Rattle.ra_report.specs.Edits.{Edit}
 use Rattle.ra_report.specs.Finishing.{Finishes}
 use Rattle.ra_report.specs.Orders.{awaits_report, order_denied}

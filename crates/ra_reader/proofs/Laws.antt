@@ -8,8 +8,8 @@ use Rattle.browse_wire.specs.Asks.{Ask}
 use Rattle.browse_wire.specs.AskReading.{Reading, ask_in}
 use Rattle.browse_wire.specs.Reports.{Report, report_in}
 use Rattle.browse_wire.specs.Urls.{Url}
+use Rattle.ra_denial.specs.Denials.{unless_denied}
 use Rattle.ra_browse.specs.Answers.{answer, behind}
-use Rattle.ra_browse.specs.Denials.{unless_denied}
 use Rattle.ra_browse.proofs.Laws.{others_stay, root_behind}
 use Rattle.ra_report.specs.Edits.{finished}
 use Rattle.ra_report.specs.Orders.{awaits_report, order_denied}

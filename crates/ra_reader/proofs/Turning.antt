@@ -18,8 +18,8 @@ use Rattle.ra_serve.specs.declared.fault.PortFault.{PortFault}
 use Rattle.ra_serve.specs.Serving.{EndsAt, HasFault, no_failure, any, none}
 use Rattle.ra_serve.specs.declared.fault.End as declared
 use Rattle.ra_serve.specs.declared.fault.End.TheVariants as end
+use Rattle.ra_denial.specs.Halts.{IsCalm, halts_in}
 use Rattle.ra_browse.specs.Histories.{Nothing}
-use Rattle.ra_browse.specs.Answers.{IsCalm, halts_in}
 use Rattle.ra_reader.specs.Standings.{Standing, Added, ready_at}
 use Rattle.ra_reader.specs.Sessions.{Turn, answer_to, stands_behind, answers, stands, Has, AllHave, halts}
 use Rattle.ra_reader.specs.Serving.{Browses, all, all_have, answers_at}

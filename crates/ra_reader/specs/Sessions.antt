@@ -11,7 +11,7 @@ use Rattle.browse_wire.specs.declared.url.UrlFault.{UrlFault}
 use Rattle.browse_wire.specs.declared.url.UrlFault.TheVariants as bad
 use Rattle.ra_serve.specs.Answers.{refused}
 use Rattle.ra_serve.specs.Sessions.{identity_text, is_anonymous, logs_in}
-use Rattle.ra_browse.specs.Answers.{halts_in}
+use Rattle.ra_denial.specs.Halts.{halts_in}
 use Rattle.ra_reader.specs.Standings.{Standing, Added, ready_at, told_at, leads_to, HasAt}
 
 -- an item that a client sent, and what the session adds to it

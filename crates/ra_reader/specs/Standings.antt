@@ -10,10 +10,11 @@ use Rattle.browse_wire.specs.Reports as reports
 use Rattle.browse_wire.specs.Reports.{Report, Reported, SetPath, DeletePath, LinkPath, FinishReport, AbortReport, report_in}
 use Rattle.browse_wire.specs.Urls.{Url}
 use Rattle.ra_serve.specs.declared.fault.PortFault.{PortFault}
-use Rattle.ra_browse.specs.declared.denial.Denial.{Denial}
-use Rattle.ra_browse.specs.declared.denial.Denial.TheVariants as denial
-use Rattle.ra_browse.specs.Answers.{IsCalm, MayHalt, MayHave, answer, behind, no_ask}
-use Rattle.ra_browse.specs.Denials.{denied, unless_denied}
+use Rattle.ra_denial.specs.Denials.{denied, unless_denied}
+use Rattle.ra_denial.specs.Halts.{IsCalm}
+use Rattle.ra_denial.specs.declared.denial.Denial.{Denial}
+use Rattle.ra_denial.specs.declared.denial.Denial.TheVariants as denial
+use Rattle.ra_browse.specs.Answers.{MayHalt, MayHave, answer, behind, no_ask}
 use Rattle.ra_browse.specs.Histories.{Found}
 use Rattle.ra_report.specs.Edits.{Edit, IsLawful, MayEdit, finished}
 use Rattle.ra_report.specs.Orders.{awaits_report, order_denied}

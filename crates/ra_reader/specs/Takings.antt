@@ -10,8 +10,8 @@ use Rattle.browse_wire.specs.Asks.{ask_as}
 use Rattle.browse_wire.specs.Reports.{report_as}
 use Rattle.browse_wire.specs.Urls.{Url}
 use Rattle.browse_wire.specs.declared.url.SessionUrl.{SessionUrl}
-use Rattle.ra_browse.specs.Answers.{IsCalm}
-use Rattle.ra_browse.specs.Tellings.{place_as}
+use Rattle.ra_denial.specs.Halts.{IsCalm}
+use Rattle.ra_denial.specs.Places.{place_as}
 use Rattle.ra_reader.specs.Standings.{Phase, Idle, Reporting, Spoilt, Edited, Standing, Added, standing_at, Said, More, AtEnd, GivenUp, Spoils, told_at, leads_to, HasAt}
 use Rattle.ra_reader.specs.declared.phase.Phase as declared_phase
 use Rattle.ra_reader.specs.declared.phase.Phase.TheVariants as coded

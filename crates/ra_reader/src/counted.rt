@@ -4,7 +4,7 @@ ghost use Rattle.std.specs.Prelude.{◌≡◌, IfErr, IfOk};
 ghost use Rattle.byte_streams.specs.Causes.{Fails};
 ghost use Rattle.ra_item.specs.ItemStreams.{meanwhile};
 ghost use Rattle.ra_serve.specs.Counted.{IsToldOnlyBy};
-ghost use Rattle.ra_browse.specs.Tellings.{PortStays};
+ghost use Rattle.ra_denial.specs.Stops.{PortStays};
 ghost use Rattle.ra_reader.specs.Calls.{CountsReader, ServesSession};
 ghost use Rattle.ra_reader.specs.Serving.{Greets};
 

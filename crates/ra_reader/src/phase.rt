@@ -2,7 +2,7 @@
 
 use browse_wire::ask::BrowseCommand;
 use browse_wire::report::ReportCommand;
-use ra_browse::Denial;
+use ra_denial::Denial;
 
 /// A command that a report follows, and what was reported for it so far.
 #[derive(Drop)]

@@ -10,7 +10,7 @@ ghost use Rattle.ra_reader.specs.Takings.{said_as};
 
 use browse_wire::fault::BrowseFault;
 use browse_wire::report::{ReportCommand, Reported};
-use ra_browse::Denial;
+use ra_denial::Denial;
 use ra_item::item::Item;
 use ra_serve::ServeFault;
 use std::alloc::Global;

@@ -1,7 +1,8 @@
 //! What readers ask, and what they are told.
 
 use crate::sessions::{ROOT, are_answered, first_told_else, none_is_wrong};
-use ra_browse::{Denial, law};
+use ra_browse::law;
+use ra_denial::Denial;
 use ra_reader::law as session_law;
 use std::rt::HostRuntime;
 

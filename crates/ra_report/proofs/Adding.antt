@@ -2,9 +2,9 @@
 use Rattle.std.proofs.Common.{◌≡◌, ℕ, Bool, true, false, List, Option, Result, Ok, Err}
 use Rattle.std.specs.Prelude.{IfOk}
 use Rattle.ra_serve.specs.Tellings.{Adds}
-use Rattle.ra_browse.specs.Tellings.{TellsStop}
-use Rattle.ra_browse.specs.declared.stop.Stop.{Stop}
-use Rattle.ra_browse.proofs.Adding.{stop_adds}
+use Rattle.ra_denial.specs.Writing.{TellsStop}
+use Rattle.ra_denial.specs.declared.stop.Stop.{Stop}
+use Rattle.ra_denial.proofs.Adding.{stop_adds}
 use Rattle.ra_report.specs.Edits.{edit_told}
 use Rattle.ra_report.specs.Plans.{TellsPlan}
 use Rattle.ra_report.specs.declared.plan.Plan.{Plan}

@@ -1,11 +1,12 @@
 -- Calls one after another: what they deny, and what they come to.
 use Rattle.std.proofs.Common.{◌≡◌, ℕ, ◌≤◌, Option, Some, None, Result, Ok, Err, refl, sym, ap, subst, ◌∙◌, arith}
 use Rattle.std.specs.Option.{option_or}
-use Rattle.ra_serve.proofs.Causes.{rose_later, rose_sooner}
-use Rattle.ra_browse.specs.declared.denial.Denial.{Denial}
-use Rattle.ra_browse.specs.declared.stop.Stop.{Stop}
-use Rattle.ra_browse.specs.declared.stop.Stop.TheVariants as stop
-use Rattle.ra_browse.specs.Tellings.{MayStop, Comes, Denies, Decides}
+use Rattle.ra_serve.proofs.Causes.{rose_sooner}
+use Rattle.ra_denial.specs.Stops.{MayStop, Comes, Denies, Decides}
+use Rattle.ra_denial.specs.declared.denial.Denial.{Denial}
+use Rattle.ra_denial.specs.declared.stop.Stop.{Stop}
+use Rattle.ra_denial.specs.declared.stop.Stop.TheVariants as stop
+use Rattle.ra_denial.proofs.Stops.{denies_stops, later_stops}
 
 -- ---- of two reasons
 
@@ -27,20 +28,10 @@ first_stops p m n d e (stop.Denied w) h k = ap (λ o. option_or o e) k
 first_stops p m n d e (stop.Port f) h k = (k.0, rose_sooner p m n h k.1)
 first_stops p m n d e stop.OutOfMemory h k = tt
 
-pub later_stops : (p m n : ℕ) (d : Option Denial) (s : Stop) → p ≤ m → MayStop m n d s → MayStop p n d s
-later_stops p m n d (stop.Denied w) h k = k
-later_stops p m n d (stop.Port f) h k = (k.0, rose_later p m n h k.1)
-later_stops p m n d stop.OutOfMemory h k = tt
-
 pub second_stops : (p m n : ℕ) (d e : Option Denial) (s : Stop) → p ≤ m → d ≡ None → MayStop m n e s → MayStop p n (option_or d e) s
 second_stops p m n d e s l h k = subst (λ o. MayStop p n o s) (sym (only_second d e h)) (later_stops p m n e s l k)
 
 -- of a call that asks no port
-pub denies_stops : (p n : ℕ) (d : Option Denial) (s : Stop) → Denies d s → MayStop p n d s
-denies_stops p n d (stop.Denied w) h = h
-denies_stops p n d (stop.Port f) h = absurd h
-denies_stops p n d stop.OutOfMemory h = tt
-
 pub denied_first : (p n : ℕ) (d e : Option Denial) (s : Stop) → Denies d s → MayStop p n (option_or d e) s
 denied_first p n d e s h = first_stops p n n d e s (omega arith) (denies_stops p n d s h)
 

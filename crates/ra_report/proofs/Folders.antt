@@ -15,12 +15,12 @@ use Rattle.repo_core.specs.Repository.{Repository}
 use Rattle.ra_serve.specs.Answers.{asked}
 use Rattle.ra_serve.specs.Ports as port
 use Rattle.ra_serve.specs.Ports.{tree_of}
-use Rattle.ra_browse.specs.declared.denial.Denial.{Denial}
-use Rattle.ra_browse.specs.declared.denial.Denial.TheVariants as denial
-use Rattle.ra_browse.specs.declared.stop.Stop.{Stop}
-use Rattle.ra_browse.specs.Answers.{no_revision, dir_denied}
-use Rattle.ra_browse.specs.Tellings.{Comes, Decides}
-use Rattle.ra_browse.proofs.Causes.{is_there}
+use Rattle.ra_denial.specs.Denials.{no_revision, dir_denied}
+use Rattle.ra_denial.specs.Stops.{Comes, Decides}
+use Rattle.ra_denial.specs.declared.denial.Denial.{Denial}
+use Rattle.ra_denial.specs.declared.denial.Denial.TheVariants as denial
+use Rattle.ra_denial.specs.declared.stop.Stop.{Stop}
+use Rattle.ra_denial.proofs.Causes.{is_there}
 use Rattle.ra_report.specs.Orders.{is_short, place_denied, wanted_denied, wanted_in}
 use Rattle.ra_report.specs.Plans.{IsWanted, IsCopy}
 use Rattle.ra_report.specs.Reports.{having, begun, begun_denied, folder_denied, placing_denied}

@@ -7,8 +7,8 @@ use Rattle.browse_wire.specs.Reports.{Report, report_as}
 use Rattle.browse_wire.specs.declared.report.ReportCommand.{ReportCommand}
 use Rattle.browse_wire.specs.Urls.{Url}
 use Rattle.repo_core.specs.Repository.{Repository}
-use Rattle.ra_browse.specs.declared.stop.Stop.{Stop}
-use Rattle.ra_browse.specs.Tellings.{Comes, MayStop}
+use Rattle.ra_denial.specs.Stops.{Comes, MayStop}
+use Rattle.ra_denial.specs.declared.stop.Stop.{Stop}
 use Rattle.ra_report.specs.Plans.{IsCopy}
 use Rattle.ra_report.specs.Shown.{Known}
 use Rattle.ra_report.specs.Reports.{Having, having, begin_denied, begin_known, base_in, heeded, heeded_denied, later, later_denied, whole, whole_denied, base_of}

@@ -9,4 +9,3 @@ pub mod Switching
 pub mod Takes
 pub mod Targets
 pub mod Trims
-pub mod Urls

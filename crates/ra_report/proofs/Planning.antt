@@ -17,12 +17,12 @@ use Rattle.repo_core.specs.Repository.{Repository}
 use Rattle.ra_serve.specs.declared.fault.ServeFault.{ServeFault}
 use Rattle.ra_serve.specs.Answers.{asked}
 use Rattle.ra_serve.specs.Ports.{tree_of}
-use Rattle.ra_browse.specs.declared.denial.Denial.{Denial}
-use Rattle.ra_browse.specs.declared.stop.Stop.{Stop}
-use Rattle.ra_browse.specs.declared.stop.Stop.TheVariants as stop
-use Rattle.ra_browse.specs.Answers.{no_revision}
-use Rattle.ra_browse.specs.Denials.{unless_denied}
-use Rattle.ra_browse.specs.Tellings.{Comes, Decides, MayStop, TellsStop}
+use Rattle.ra_denial.specs.Denials.{no_revision, unless_denied}
+use Rattle.ra_denial.specs.Stops.{Comes, Decides, MayStop}
+use Rattle.ra_denial.specs.Writing.{TellsStop}
+use Rattle.ra_denial.specs.declared.denial.Denial.{Denial}
+use Rattle.ra_denial.specs.declared.stop.Stop.{Stop}
+use Rattle.ra_denial.specs.declared.stop.Stop.TheVariants as stop
 use Rattle.ra_report.specs.Edits.{Edit, IsEdit, EditsIf, all_props, edit_denied, edit_told, report_denied, wanted_with}
 use Rattle.ra_report.specs.Finishing.{Finished, Finishes}
 use Rattle.ra_report.specs.Orders.{order_denied, place_denied, wanted_denied, wanted_in, revision_of, place_of, target_of, depth_of, keeps, IsOrder}

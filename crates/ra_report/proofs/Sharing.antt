@@ -8,12 +8,12 @@ use Rattle.dump_load.specs.Faults.{fault_if}
 use Rattle.repo_core.specs.Repository.{Repository, Revision, props_at}
 use Rattle.ra_serve.specs.Ports as port
 use Rattle.ra_serve.proofs.Causes.{rose_later}
-use Rattle.ra_browse.specs.declared.denial.Denial.{Denial}
-use Rattle.ra_browse.specs.declared.denial.Denial.TheVariants as denial
-use Rattle.ra_browse.specs.declared.stop.Stop.{Stop}
-use Rattle.ra_browse.specs.declared.stop.Stop.TheVariants as stop
-use Rattle.ra_browse.specs.Answers.{no_revision}
-use Rattle.ra_browse.specs.Tellings.{MayStop}
+use Rattle.ra_denial.specs.Denials.{no_revision}
+use Rattle.ra_denial.specs.Stops.{MayStop}
+use Rattle.ra_denial.specs.declared.denial.Denial.{Denial}
+use Rattle.ra_denial.specs.declared.denial.Denial.TheVariants as denial
+use Rattle.ra_denial.specs.declared.stop.Stop.{Stop}
+use Rattle.ra_denial.specs.declared.stop.Stop.TheVariants as stop
 use Rattle.ra_report.specs.Edits.{all_props}
 
 not_past : (b : Bool) → fault_if b refusal.NoSuchRevision ≡ None → b ≡ false

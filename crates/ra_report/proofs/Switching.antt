@@ -9,9 +9,9 @@ use Rattle.node_base.specs.declared.fault.TreeFault.{TreeFault}
 use Rattle.node_base.specs.declared.node.Node.{Node}
 use Rattle.path_tree.specs.Copies.{copy_too_long}
 use Rattle.dump_load.specs.Faults.{fault_if}
-use Rattle.ra_browse.specs.declared.denial.Denial.TheVariants as denial
-use Rattle.ra_browse.specs.declared.stop.Stop.{Stop}
-use Rattle.ra_browse.specs.Tellings.{Decides, Denies}
+use Rattle.ra_denial.specs.Stops.{Decides, Denies}
+use Rattle.ra_denial.specs.declared.denial.Denial.TheVariants as denial
+use Rattle.ra_denial.specs.declared.stop.Stop.{Stop}
 use Rattle.ra_report.specs.Switches.{lies, is_open, with_switch, with_switches, switch_denied, switches_denied}
 use Rattle.ra_report.specs.declared.switched.Switched.{Switched}
 use Rattle.ra_report.proofs.Calls.{first_denies, only_second}

@@ -20,13 +20,14 @@ use Rattle.browse_wire.specs.declared.report.ReportCommand.{ReportCommand}
 use Rattle.repo_core.specs.Repository.{Repository}
 use Rattle.ra_serve.specs.Ports as port
 use Rattle.ra_serve.specs.Ports.{tree_of}
-use Rattle.ra_browse.specs.declared.denial.Denial.{Denial}
-use Rattle.ra_browse.specs.declared.denial.Denial.TheVariants as denial
-use Rattle.ra_browse.specs.declared.stop.Stop.{Stop}
-use Rattle.ra_browse.specs.declared.stop.Stop.TheVariants as stop
-use Rattle.ra_browse.specs.Answers.{no_revision, url_denied, moved_to}
-use Rattle.ra_browse.specs.Tellings.{Comes, Decides, Denies}
-use Rattle.ra_browse.proofs.Causes.{is_there}
+use Rattle.ra_denial.specs.Denials.{no_revision}
+use Rattle.ra_denial.specs.Places.{url_denied, moved_to}
+use Rattle.ra_denial.specs.Stops.{Comes, Decides, Denies}
+use Rattle.ra_denial.specs.declared.denial.Denial.{Denial}
+use Rattle.ra_denial.specs.declared.denial.Denial.TheVariants as denial
+use Rattle.ra_denial.specs.declared.stop.Stop.{Stop}
+use Rattle.ra_denial.specs.declared.stop.Stop.TheVariants as stop
+use Rattle.ra_denial.proofs.Causes.{is_there}
 use Rattle.ra_report.specs.Reports.{Having, having, heeded, heeded_denied, is_blocked, is_void, links_denied, lying, placing_denied, shown_fault, source_denied, switched, with_source, next, next_denied, error_stop, voided, void_denied}
 use Rattle.ra_report.specs.Shown.{Known, brought, shown_of}
 use Rattle.ra_report.specs.declared.shown.Shown.{Shown}

@@ -5,8 +5,8 @@ use Rattle.browse_wire.specs.Reports.{Report, SetPath, LinkPath, DeletePath, Fin
 use Rattle.browse_wire.specs.declared.report.ReportCommand.{ReportCommand}
 use Rattle.browse_wire.specs.Urls.{Url}
 use Rattle.repo_core.specs.Repository.{Repository}
-use Rattle.ra_browse.specs.declared.stop.Stop.{Stop}
-use Rattle.ra_browse.specs.Tellings.{Comes, Denies}
+use Rattle.ra_denial.specs.Stops.{Comes, Denies}
+use Rattle.ra_denial.specs.declared.stop.Stop.{Stop}
 use Rattle.ra_report.specs.Plans.{IsCopy}
 use Rattle.ra_report.specs.Reports.{aim_denied, aimed, aims_denied, base_of, reports_denied, reported, whole, whole_denied}
 use Rattle.ra_report.specs.declared.plan.WorkingCopy.{WorkingCopy}

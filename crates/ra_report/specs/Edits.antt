@@ -24,9 +24,9 @@ use Rattle.tree_reports.specs.declared.depth.Depth.{Depth}
 use Rattle.tree_changes.specs.Changes.{AreBetween}
 use Rattle.ra_update.specs.Sent.{calls_told, end_item, Make}
 use Rattle.ra_update.specs.declared.facts.Facts.{Facts}
-use Rattle.ra_browse.specs.declared.denial.Denial.{Denial}
-use Rattle.ra_browse.specs.Denials.{unless_denied}
-use Rattle.ra_browse.specs.Histories.{is_looked_at}
+use Rattle.ra_denial.specs.Denials.{unless_denied}
+use Rattle.ra_denial.specs.Halts.{is_looked_at}
+use Rattle.ra_denial.specs.declared.denial.Denial.{Denial}
 use Rattle.ra_report.specs.Orders.{order_denied, wanted_denied, wanted_in, revision_of, place_of, target_of, depth_of, keeps}
 use Rattle.ra_report.specs.Reports.{Having, aimed, reports_denied, reported, base_of}
 use Rattle.ra_report.specs.Switches.{kept, switches_denied, with_switches}

@@ -7,7 +7,7 @@ use Rattle.browse_wire.specs.Asks.{Ask}
 use Rattle.browse_wire.specs.Reports.{Report}
 use Rattle.browse_wire.specs.Urls.{Url}
 use Rattle.ra_serve.specs.declared.fault.PortFault.{PortFault}
-use Rattle.ra_browse.specs.Answers.{IsCalm}
+use Rattle.ra_denial.specs.Halts.{IsCalm}
 use Rattle.ra_report.specs.Edits.{Edit, MayEdit, IsLawful, finished}
 
 -- behind what the writer held stands the edit that makes what is wanted of what was reported, or what is told in its place; the port

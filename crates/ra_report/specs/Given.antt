@@ -17,11 +17,11 @@ use Rattle.browse_wire.specs.Reports.{report_as}
 use Rattle.browse_wire.specs.Urls.{Url, url_read}
 use Rattle.browse_wire.specs.declared.depth.Depth as wire
 use Rattle.browse_wire.specs.declared.report.ReportCommand.{ReportCommand}
-use Rattle.ra_browse.specs.Answers.{moved_to, url_denied}
-use Rattle.ra_browse.specs.Tellings.{Decides}
-use Rattle.ra_browse.specs.declared.denial.Denial.{Denial}
-use Rattle.ra_browse.specs.declared.denial.Denial.TheVariants as denial
-use Rattle.ra_browse.specs.declared.stop.Stop.{Stop}
+use Rattle.ra_denial.specs.Places.{moved_to, url_denied}
+use Rattle.ra_denial.specs.Stops.{Decides}
+use Rattle.ra_denial.specs.declared.denial.Denial.{Denial}
+use Rattle.ra_denial.specs.declared.denial.Denial.TheVariants as denial
+use Rattle.ra_denial.specs.declared.stop.Stop.{Stop}
 use Rattle.ra_report.specs.Orders.{Orders, depth_wanted, place_denied}
 use Rattle.ra_report.specs.Reports.{aim_denied, aimed, begun, begun_denied, links_denied, switched, void_denied, voided}
 use Rattle.ra_report.specs.Shown.{Known}

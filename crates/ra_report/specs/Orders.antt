@@ -16,9 +16,10 @@ use Rattle.browse_wire.specs.declared.depth.DepthWord.TheVariants as said
 use Rattle.repo_core.specs.Repository.{Repository}
 use Rattle.ra_serve.specs.Answers.{asked, node_in}
 use Rattle.ra_serve.specs.Ports.{tree_of}
-use Rattle.ra_browse.specs.declared.denial.Denial.{Denial}
-use Rattle.ra_browse.specs.declared.denial.Denial.TheVariants as denial
-use Rattle.ra_browse.specs.Answers.{no_revision, dir_denied, url_denied, moved_to}
+use Rattle.ra_denial.specs.Denials.{no_revision, dir_denied}
+use Rattle.ra_denial.specs.Places.{url_denied, moved_to}
+use Rattle.ra_denial.specs.declared.denial.Denial.{Denial}
+use Rattle.ra_denial.specs.declared.denial.Denial.TheVariants as denial
 use Rattle.ra_report.specs.Shown.{depth_as}
 use Rattle.ra_report.specs.declared.order.Order as declared
 

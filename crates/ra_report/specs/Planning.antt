@@ -12,9 +12,10 @@ use Rattle.browse_wire.specs.declared.ask.BrowseCommand.{BrowseCommand}
 use Rattle.browse_wire.specs.declared.report.ReportCommand.{ReportCommand}
 use Rattle.browse_wire.specs.declared.url.SessionUrl.{SessionUrl}
 use Rattle.ra_serve.specs.declared.port.RepoPort.{Ghosts}
-use Rattle.ra_browse.specs.Answers.{no_revision}
-use Rattle.ra_browse.specs.Tellings.{Finds, place_as}
-use Rattle.ra_browse.specs.declared.stop.Stop.{Stop}
+use Rattle.ra_denial.specs.Denials.{no_revision}
+use Rattle.ra_denial.specs.Places.{place_as}
+use Rattle.ra_denial.specs.Stops.{Finds}
+use Rattle.ra_denial.specs.declared.stop.Stop.{Stop}
 use Rattle.ra_report.specs.Edits.{Edit, all_props, edit_denied, report_denied}
 use Rattle.ra_report.specs.Finishing.{Finishes}
 use Rattle.ra_report.specs.Orders.{depth_of, keeps, place_of, revision_of, target_of, wanted_denied, wanted_in}

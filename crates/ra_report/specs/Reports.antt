@@ -15,11 +15,12 @@ use Rattle.browse_wire.specs.Reports.{Report, Reported, SetPath, DeletePath, Lin
 use Rattle.browse_wire.specs.Urls.{Url, url_read}
 use Rattle.repo_core.specs.Repository.{Repository}
 use Rattle.ra_serve.specs.Ports.{tree_of}
-use Rattle.ra_browse.specs.declared.denial.Denial.{Denial}
-use Rattle.ra_browse.specs.declared.denial.Denial.TheVariants as denial
-use Rattle.ra_browse.specs.declared.stop.Stop.{Stop}
-use Rattle.ra_browse.specs.declared.stop.Stop.TheVariants as stop
-use Rattle.ra_browse.specs.Answers.{no_revision, dir_denied, url_denied, moved_to}
+use Rattle.ra_denial.specs.Denials.{no_revision, dir_denied}
+use Rattle.ra_denial.specs.Places.{url_denied, moved_to}
+use Rattle.ra_denial.specs.declared.denial.Denial.{Denial}
+use Rattle.ra_denial.specs.declared.denial.Denial.TheVariants as denial
+use Rattle.ra_denial.specs.declared.stop.Stop.{Stop}
+use Rattle.ra_denial.specs.declared.stop.Stop.TheVariants as stop
 use Rattle.ra_report.specs.Shown.{Known, bare, brought, shown_of}
 use Rattle.ra_report.specs.Switches.{lies}
 use Rattle.ra_report.specs.declared.shown.Shown.{Shown}

@@ -7,8 +7,8 @@ use Rattle.node_base.specs.Tree.{PathMap, blocked, grafted}
 use Rattle.node_base.specs.declared.node.Node.{Node}
 use Rattle.path_tree.specs.Copies.{copy_too_long}
 use Rattle.dump_load.specs.Faults.{fault_if}
-use Rattle.ra_browse.specs.declared.denial.Denial.{Denial}
-use Rattle.ra_browse.specs.declared.denial.Denial.TheVariants as denial
+use Rattle.ra_denial.specs.declared.denial.Denial.{Denial}
+use Rattle.ra_denial.specs.declared.denial.Denial.TheVariants as denial
 use Rattle.ra_report.specs.declared.switched.Switched.{Switched}
 
 -- where a path lies, which is there if nothing is switched: of the switched paths that are fronts of it the last decides

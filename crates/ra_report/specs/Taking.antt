@@ -10,9 +10,10 @@ use Rattle.browse_wire.specs.declared.report.Reported as declared_reported
 use Rattle.browse_wire.specs.declared.url.SessionUrl.{SessionUrl}
 use Rattle.ra_serve.specs.Ports.{tree_of}
 use Rattle.ra_serve.specs.declared.port.RepoPort.{Ghosts}
-use Rattle.ra_browse.specs.Answers.{no_revision}
-use Rattle.ra_browse.specs.Tellings.{Finds, place_as}
-use Rattle.ra_browse.specs.declared.stop.Stop.{Stop}
+use Rattle.ra_denial.specs.Denials.{no_revision}
+use Rattle.ra_denial.specs.Places.{place_as}
+use Rattle.ra_denial.specs.Stops.{Finds}
+use Rattle.ra_denial.specs.declared.stop.Stop.{Stop}
 use Rattle.ra_report.specs.Given.{path_denied}
 use Rattle.ra_report.specs.Plans.{IsCopy}
 use Rattle.ra_report.specs.Reports.{Having, having, base_in, base_of, begin_denied, begin_known, begun, begun_denied, heeded, heeded_denied, later, later_denied}

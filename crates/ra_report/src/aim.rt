@@ -2,14 +2,14 @@
 
 ghost use Rattle.std.specs.Prelude.{◌≡◌, ◌++◌, map};
 ghost use Rattle.browse_wire.specs.Reports.{report_as, reported_as, LinkPath};
-ghost use Rattle.ra_browse.specs.Tellings.{Decides};
+ghost use Rattle.ra_denial.specs.Stops.{Decides};
 ghost use Rattle.ra_report.specs.Given.{path_denied, AddsAimed};
 ghost use Rattle.ra_report.specs.Reports.{aim_denied, aimed, aims_denied, behind};
 
 use crate::take::path_in;
 use browse_wire::report::{ReportCommand, Reported};
 use node_base::NodePath;
-use ra_browse::Stop;
+use ra_denial::Stop;
 use std::alloc::Global;
 
 /// The commands with their paths behind a target.

@@ -3,7 +3,8 @@
 ghost use Rattle.std.specs.Prelude.{◌≡◌, true, false, IfOk};
 ghost use Rattle.uuid.specs.Text.{hyphenated_text, lower};
 ghost use Rattle.ra_serve.specs.Tellings.{Adds};
-ghost use Rattle.ra_browse.specs.Tellings.{PortStays, TellsStop};
+ghost use Rattle.ra_denial.specs.Stops.{PortStays};
+ghost use Rattle.ra_denial.specs.Writing.{TellsStop};
 ghost use Rattle.ra_report.specs.Edits.{edit_told};
 ghost use Rattle.ra_report.specs.Planning.{EndsReport};
 ghost use Rattle.ra_report.specs.Plans.{TellsPlan};
@@ -13,7 +14,7 @@ use crate::send::send;
 use browse_wire::ask::BrowseCommand;
 use browse_wire::report::ReportCommand;
 use browse_wire::url::SessionUrl;
-use ra_browse::{Stop, tell};
+use ra_denial::{Stop, tell};
 use ra_serve::{RepoPort, ServeFault};
 use std::alloc::Global;
 use std::io::Write;

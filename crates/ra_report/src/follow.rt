@@ -2,7 +2,7 @@
 
 ghost use Rattle.std.specs.Prelude.{◌≡◌};
 ghost use Rattle.std.specs.FinMap as finite;
-ghost use Rattle.ra_browse.specs.Tellings.{Decides};
+ghost use Rattle.ra_denial.specs.Stops.{Decides};
 ghost use Rattle.ra_report.specs.Given.{Follows, FollowsOne};
 ghost use Rattle.ra_report.specs.Plans.{AreKept};
 ghost use Rattle.ra_report.specs.Switches.{kept, switches_denied};
@@ -10,7 +10,7 @@ ghost use Rattle.ra_report.specs.Switches.{kept, switches_denied};
 use crate::plan::Wanted;
 use crate::switched::Switched;
 use path_tree::Tree;
-use ra_browse::{Denial, Stop};
+use ra_denial::{Denial, Stop};
 use std::alloc::Global;
 use tree_reports::put_copy;
 

@@ -3,8 +3,9 @@
 ghost use Rattle.std.specs.Prelude.{◌≡◌, ◌++◌, true, false, None};
 ghost use Rattle.browse_wire.specs.Asks.{ask_as};
 ghost use Rattle.browse_wire.specs.Depths.{word_of};
-ghost use Rattle.ra_browse.specs.Tellings.{place_as, url_stop, Decides};
-ghost use Rattle.ra_report.specs.Given.{link_denied, link_place, GivesOrder};
+ghost use Rattle.ra_denial.specs.Places.{place_as};
+ghost use Rattle.ra_denial.specs.Stops.{Decides};
+ghost use Rattle.ra_report.specs.Given.{link_place, GivesOrder};
 ghost use Rattle.ra_report.specs.Orders.{awaits_report, depth_wanted, here_denied, is_short, part_denied, there_denied};
 ghost use Rattle.ra_report.specs.Orders.{order_denied, IsOrder};
 
@@ -12,9 +13,9 @@ use crate::shown::depth_of;
 use crate::take::path_in;
 use browse_wire::ask::BrowseCommand;
 use browse_wire::depth::Depth as Below;
-use browse_wire::url::{SessionUrl, UrlFault};
+use browse_wire::url::SessionUrl;
 use node_base::NodePath;
-use ra_browse::{Denial, Stop};
+use ra_denial::{Denial, Stop, path_at};
 use std::alloc::Global;
 use tree_reports::Depth;
 
@@ -180,27 +181,5 @@ fn depth_wanted(depth: Option<Below>) -> Option<Depth>
     match depth {
         Some(depth) => Some(depth_of(depth)),
         None => None,
-    }
-}
-
-/// The path of another URL of the session's root.
-pub fn path_at(alloc: Global, place: &SessionUrl, url: &[u8]) -> Result<NodePath, Stop>
-    ensures { Decides (link_denied (place_as place.now) url.now)
-        (λ p. p ≡ link_place (place_as place.now) url.now) result }
-{
-    match place.path_of(alloc, url) {
-        Ok(path) => Ok(path),
-        Err(fault) => Err(stop_of(fault)),
-    }
-}
-
-// Why a URL isn't one of them.
-fn stop_of(fault: UrlFault) -> Stop
-    ensures { result ≡ url_stop fault }
-{
-    match fault {
-        UrlFault::OutOfMemory => Stop::OutOfMemory,
-        UrlFault::OtherRoot => Stop::Denied(Denial::OtherRoot),
-        _ => Stop::Denied(Denial::BadUrl),
     }
 }

@@ -2,8 +2,8 @@
 
 ghost use Rattle.std.specs.Prelude.{◌≡◌};
 ghost use Rattle.browse_wire.specs.Asks.{ask_as};
-ghost use Rattle.ra_browse.specs.Answers.{no_revision};
-ghost use Rattle.ra_browse.specs.Tellings.{Finds, PortStays};
+ghost use Rattle.ra_denial.specs.Denials.{no_revision};
+ghost use Rattle.ra_denial.specs.Stops.{Finds, PortStays};
 ghost use Rattle.ra_report.specs.Planning.{Plans, PlansBy, PlansFully, PlansFrom, PlansWith};
 ghost use Rattle.ra_report.specs.Plans.{IsPlanned};
 
@@ -19,7 +19,7 @@ use browse_wire::report::ReportCommand;
 use browse_wire::url::SessionUrl;
 use node_base::{Props, RevNo};
 use path_tree::Tree;
-use ra_browse::Stop;
+use ra_denial::Stop;
 use ra_serve::RepoPort;
 use std::alloc::Global;
 use tree_reports::Report;

@@ -2,13 +2,13 @@
 
 ghost use Rattle.std.specs.Prelude.{◌≡◌, suc, take};
 ghost use Rattle.repo_core.specs.Repository.{Repository};
-ghost use Rattle.ra_browse.specs.Answers.{no_revision};
-ghost use Rattle.ra_browse.specs.Tellings.{Finds, PortStays};
+ghost use Rattle.ra_denial.specs.Denials.{no_revision};
+ghost use Rattle.ra_denial.specs.Stops.{Finds, PortStays};
 ghost use Rattle.ra_report.specs.Edits.{all_props};
 ghost use Rattle.ra_report.specs.Planning.{AddsProps};
 
 use node_base::{Props, RevNo};
-use ra_browse::{Stop, stopped};
+use ra_denial::{Stop, stopped};
 use ra_serve::RepoPort;
 use std::alloc::Global;
 

@@ -9,7 +9,7 @@ ghost use Rattle.ra_report.specs.Splits.{whole_split};
 
 use crate::take::path_below;
 use node_base::{NodeName, NodePath, rest_after};
-use ra_browse::Stop;
+use ra_denial::Stop;
 use std::alloc::Global;
 
 /// A path at which another URL's place stands.

@@ -4,7 +4,7 @@ ghost use Rattle.std.specs.Prelude.{◌≡◌, ◌++◌, map, None, IfOk, OnOk};
 ghost use Rattle.std.specs.FinMap as finite;
 ghost use Rattle.std.specs.List.{flat_map, list_any};
 ghost use Rattle.browse_wire.specs.Reports.{report_as};
-ghost use Rattle.ra_browse.specs.Tellings.{Decides};
+ghost use Rattle.ra_denial.specs.Stops.{Decides};
 ghost use Rattle.ra_report.specs.Given.{TrimsWanted, TrimsCopy};
 ghost use Rattle.ra_report.specs.Plans.{IsTrimmed, IsTrimmedBy};
 ghost use Rattle.ra_report.specs.Reports.{aims_denied};
@@ -20,7 +20,7 @@ use crate::shown::part_of;
 use browse_wire::report::{ReportCommand, Reported};
 use node_base::NodePath;
 use path_tree::Tree;
-use ra_browse::Stop;
+use ra_denial::Stop;
 use std::alloc::{AllocError, Global};
 use tree_reports::{Depth, Limit, Part, Report, limit_all, limit_one};
 

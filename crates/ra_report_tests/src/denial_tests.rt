@@ -2,7 +2,7 @@
 
 use crate::reports::{Case, answered, order};
 use crate::site::site;
-use ra_browse::{Denial, Stop};
+use ra_denial::{Denial, Stop};
 use ra_serve::RepoPort;
 use std::alloc::Global;
 use std::process::Abort;

@@ -3,7 +3,7 @@
 use browse_wire::ask::BrowseCommand;
 use browse_wire::report::ReportCommand;
 use browse_wire::url::SessionUrl;
-use ra_browse::Stop;
+use ra_denial::Stop;
 use ra_item::item::Item;
 use ra_item::reader::ItemReader;
 use ra_report::{awaits_report, finish, ordered};

@@ -1,4 +1,3 @@
-pub mod Greeted
 pub mod Keeping
 pub mod Refused
 pub mod Running

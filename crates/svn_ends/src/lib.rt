@@ -1,12 +1,12 @@
-//! Both ends of `svn://` on 127.0.0.1: the repository of a store that is served there, a thread for each connection, and
-//! a mirror over such a server.
+//! Ports over a shared repository, from which `svn_server` answers over `svn://`, and runs over a mirror's store and the
+//! repository that a server on 127.0.0.1 has.
 //!
 //! A store is shared by its sessions. Each has a [`MasterSharePort`] with a seat of its own at a
 //! `store_share::MasterShare`: what its session has seen it reads for good, whatever others commit or change meanwhile.
 //! Trees and changes are read without the lock; the newest revision, properties and changes of these are asked under it,
 //! and a change that one session makes the others see. So a port doesn't know the repository between the calls of its
 //! session, and `ra_serve::serve` says nothing of its answers: what is known of them stands in the clauses of the port's
-//! own methods. A session that ends badly ends itself alone.
+//! own methods. A mirror is shared so too, by a [`MirrorSharePort`] at a `mirror_share::MirrorShare`.
 //!
 //! What is to be done over a mirror is run over its store and the repository that a server has:
 //!
@@ -24,7 +24,6 @@
 
 pub use mirror_port::{MirrorSharePort, over_mirror};
 pub use port::{MasterSharePort, SharePort};
-pub use server::{Address, serve_mirror, serve_store};
 pub use shares::ServedShare;
 pub use work::{Source, run_deltas_over, run_work_from, run_work_over};
 
@@ -33,8 +32,6 @@ mod mirror_port;
 mod port;
 mod refusals;
 mod seen;
-mod server;
 mod shares;
-mod talk;
 mod tree_seat;
 mod work;

@@ -4,8 +4,8 @@
 
 use fleet_disk::{HeldFiles, StdFolders};
 use fleet_main::{
-    Command, CountedReader, CountedWriter, Fleet, HostDescriptors, HostFolders, HostTeller,
-    Planned, Pull, Service, Usage, fill_streams, fleet, plan, pull, run, serve,
+    Command, CountedReader, CountedWriter, Fleet, HostDescriptors, HostFolders, Planned, Pull,
+    Service, Usage, fill_streams, fleet, plan, pull, run,
 };
 use std::io::{BufWriter, ErrorKind};
 use std::net::{Net, TcpListener, TcpStream};
@@ -14,6 +14,7 @@ use std::sync::Wait;
 use std::thread::Threads;
 use std::time::Clock;
 use std::{env, io};
+use svn_server::{HostTeller, serve};
 
 // What is left to do.
 #[derive(Drop)]

@@ -3,8 +3,8 @@ use Rattle.browse_wire.specs.Asks.{ask_as}
 use Rattle.browse_wire.specs.AskReading.{ask_in}
 use Rattle.browse_wire.specs.Faults.{ReadIs}
 use Rattle.browse_wire.specs.declared.fault.BrowseFault.TheVariants as fault
-use Rattle.ra_browse.specs.declared.denial.Denial.TheVariants as denial
-use Rattle.ra_browse.specs.Tellings.{place_as}
+use Rattle.ra_denial.specs.Places.{place_as}
+use Rattle.ra_denial.specs.declared.denial.Denial.TheVariants as denial
 use Rattle.ra_browse.proofs.Exits.{answers_none}
 use Rattle.ra_serve.proofs.Adding.{more_by}
 use Rattle.ra_browse.proofs.answer.answer.Goals as goal

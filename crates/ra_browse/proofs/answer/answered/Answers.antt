@@ -1,5 +1,5 @@
 use Rattle.browse_wire.specs.Asks.{ask_as}
-use Rattle.ra_browse.specs.Tellings.{place_as}
+use Rattle.ra_denial.specs.Places.{place_as}
 use Rattle.ra_browse.proofs.Exits.{answers_command}
 use Rattle.ra_item.specs.Items.{spell}
 use Rattle.ra_wire.specs.Replies.{authorised}

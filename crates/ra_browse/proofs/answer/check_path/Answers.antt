@@ -1,5 +1,5 @@
 use Rattle.std.proofs.Common.{◌∙◌}
-use Rattle.ra_browse.specs.Tellings.{place_as}
+use Rattle.ra_denial.specs.Places.{place_as}
 use Rattle.ra_browse.proofs.answer.check_path.Goals as goal
 
 pub returns-in-Ok-clause-told : goal.returns-in-Ok-clause-told

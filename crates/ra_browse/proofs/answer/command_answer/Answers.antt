@@ -1,6 +1,6 @@
 use Rattle.std.proofs.Common.{◌∙◌, sym}
 use Rattle.browse_wire.specs.Asks.{ask_as}
-use Rattle.ra_browse.specs.Tellings.{place_as}
+use Rattle.ra_denial.specs.Places.{place_as}
 use Rattle.ra_browse.proofs.Exits.{answers_other}
 use Rattle.ra_serve.proofs.Adding.{more_by}
 use Rattle.ra_browse.proofs.answer.command_answer.Goals as goal

@@ -1,10 +1,10 @@
 use Rattle.std.proofs.Common.{None, refl}
 use Rattle.ra_wire.specs.Commands.{LatestRev}
 use Rattle.browse_wire.specs.Asks.{Plain}
-use Rattle.ra_browse.proofs.Causes.{own_stop}
+use Rattle.ra_denial.specs.declared.stop.Stop.TheVariants as stop
+use Rattle.ra_denial.proofs.Adding.{more_stopped}
+use Rattle.ra_denial.proofs.Causes.{own_stop}
 use Rattle.ra_browse.proofs.Exits.{tells_stop, none_denied}
-use Rattle.ra_browse.specs.declared.stop.Stop.TheVariants as stop
-use Rattle.ra_browse.proofs.Adding.{more_stopped}
 use Rattle.ra_browse.proofs.answer.latest.Goals as goal
 
 pub returns-in-Err-clause-told : goal.returns-in-Err-clause-told

@@ -6,10 +6,10 @@ use Rattle.ra_wire.specs.Commands.{RevProp}
 use Rattle.ra_wire.specs.Replies.{value}
 use Rattle.browse_wire.specs.Asks.{Plain}
 use Rattle.repo_core.specs.Repository.{props_at}
-use Rattle.ra_browse.specs.Answers.{no_revision}
-use Rattle.ra_browse.proofs.Causes.{is_there}
+use Rattle.ra_denial.specs.Denials.{no_revision}
+use Rattle.ra_denial.proofs.Adding.{more_stopped}
+use Rattle.ra_denial.proofs.Causes.{is_there}
 use Rattle.ra_browse.proofs.Exits.{tells_stop, told_there}
-use Rattle.ra_browse.proofs.Adding.{more_stopped}
 use Rattle.ra_browse.proofs.answer.prop.Goals as goal
 
 pub returns-in-Err-clause-told : goal.returns-in-Err-clause-told

@@ -9,10 +9,10 @@ use Rattle.ra_wire.specs.Replies.{kind_is}
 use Rattle.browse_wire.specs.Asks.{Plain}
 use Rattle.ra_serve.specs.Answers.{asked}
 use Rattle.ra_serve.specs.Ports.{tree_of}
-use Rattle.ra_browse.specs.Answers.{no_revision}
-use Rattle.ra_browse.proofs.Causes.{is_there}
+use Rattle.ra_denial.specs.Denials.{no_revision}
+use Rattle.ra_denial.proofs.Adding.{more_stopped}
+use Rattle.ra_denial.proofs.Causes.{is_there}
 use Rattle.ra_browse.proofs.Exits.{tells_stop, told_there}
-use Rattle.ra_browse.proofs.Adding.{more_stopped}
 use Rattle.ra_browse.proofs.answer.tell_kind.Goals as goal
 
 pub returns-in-Err-clause-told : goal.returns-in-Err-clause-told

@@ -1,8 +1,8 @@
 use Rattle.std.proofs.Common.{◌≡◌, None, sym, subst, ◌∙◌}
 use Rattle.repo_core.specs.Repository.{head_of}
-use Rattle.ra_browse.specs.Answers.{no_revision}
-use Rattle.ra_browse.specs.Tellings.{MayStop}
-use Rattle.ra_browse.proofs.Causes.{is_there}
+use Rattle.ra_denial.specs.Denials.{no_revision}
+use Rattle.ra_denial.specs.Stops.{MayStop}
+use Rattle.ra_denial.proofs.Causes.{is_there}
 use Rattle.ra_browse.proofs.DatedRevs.{bad_date, good_date, find_comes}
 use Rattle.ra_browse.proofs.dated.find.Goals as goal
 

@@ -3,9 +3,9 @@ use Rattle.std.specs.Io.KnownBytes.{Appends}
 use Rattle.ra_item.specs.Items.{spell}
 use Rattle.ra_wire.specs.Replies.{number}
 use Rattle.browse_wire.specs.Asks.{DatedRev}
+use Rattle.ra_denial.proofs.Adding.{more_stopped}
 use Rattle.ra_browse.specs.Answers.{dated_denied}
 use Rattle.ra_browse.proofs.Exits.{tells_stop, told_there}
-use Rattle.ra_browse.proofs.Adding.{more_stopped}
 use Rattle.ra_browse.proofs.dated.get_dated_rev.Goals as goal
 
 pub returns-in-Err-clause-told : goal.returns-in-Err-clause-told

@@ -1,6 +1,6 @@
 use Rattle.std.proofs.Common.{◌∙◌, ap}
+use Rattle.ra_denial.proofs.Causes.{is_there}
 use Rattle.ra_browse.specs.Dates.{is_by}
-use Rattle.ra_browse.proofs.Causes.{is_there}
 use Rattle.ra_browse.proofs.dated.is_by_in.Goals as goal
 
 pub returns-in-Ok-clause-found : goal.returns-in-Ok-clause-found

@@ -1,7 +1,7 @@
 use Rattle.std.proofs.Common.{◌≡◌, ◌≤◌, Some}
 use Rattle.repo_core.specs.Repository.{Repository, props_at}
+use Rattle.ra_denial.specs.Stops.{PortStays}
 use Rattle.ra_browse.specs.Dates.{newest_by}
-use Rattle.ra_browse.specs.Tellings.{PortStays}
 use Rattle.ra_browse.proofs.dated.newest_by.Given as goal
 
 abbrev pub invariant-loop-number : goal.invariant-loop-number

@@ -2,11 +2,12 @@ use Rattle.std.proofs.Common.{refl, sym, subst, ◌∙◌}
 use Rattle.ra_wire.specs.Commands.{GetDir}
 use Rattle.browse_wire.specs.Asks.{Plain}
 use Rattle.ra_serve.specs.Answers.{asked}
-use Rattle.ra_browse.specs.Answers.{no_revision}
-use Rattle.ra_browse.specs.Tellings.{place_as, AreEntries}
+use Rattle.ra_denial.specs.Denials.{no_revision}
+use Rattle.ra_denial.specs.Places.{place_as}
+use Rattle.ra_denial.proofs.Adding.{more_stopped}
+use Rattle.ra_browse.specs.Tellings.{AreEntries}
 use Rattle.ra_browse.specs.Writing.{dir_seen}
 use Rattle.ra_browse.proofs.Exits.{tells_bytes, tells_stop, stops_later, first_one, dir_reply}
-use Rattle.ra_browse.proofs.Adding.{more_stopped}
 use Rattle.ra_serve.proofs.Adding.{more_by}
 use Rattle.ra_browse.proofs.dir.get_dir.Goals as goal
 

@@ -4,10 +4,12 @@ use Rattle.uuid.specs.Text.{hyphenated_text, lower}
 use Rattle.ra_wire.specs.Commands.{GetFile}
 use Rattle.browse_wire.specs.Asks.{Plain}
 use Rattle.ra_serve.specs.Answers.{asked}
-use Rattle.ra_browse.specs.Answers.{no_revision, file_told}
-use Rattle.ra_browse.specs.Tellings.{made_as, place_as}
+use Rattle.ra_denial.specs.Denials.{no_revision}
+use Rattle.ra_denial.specs.Places.{place_as}
+use Rattle.ra_denial.proofs.Adding.{more_stopped}
+use Rattle.ra_browse.specs.Answers.{file_told}
+use Rattle.ra_browse.specs.Tellings.{made_as}
 use Rattle.ra_browse.proofs.Exits.{tells_bytes, tells_stop, file_reply, first_one}
-use Rattle.ra_browse.proofs.Adding.{more_stopped}
 use Rattle.ra_serve.proofs.Adding.{more_by}
 use Rattle.ra_browse.proofs.file.get_file.Goals as goal
 

@@ -1,8 +1,9 @@
 use Rattle.ra_item.specs.Items.{spell}
 use Rattle.browse_wire.specs.Told.{end_item}
-use Rattle.ra_browse.specs.Tellings.{place_as}
+use Rattle.ra_denial.specs.Places.{place_as}
+use Rattle.ra_denial.proofs.Adding.{more_behind_last}
 use Rattle.ra_browse.proofs.Located.{tells_found, tells_stop}
-use Rattle.ra_browse.proofs.Adding.{more_located, more_behind_last}
+use Rattle.ra_browse.proofs.Adding.{more_located}
 use Rattle.ra_browse.proofs.location.get_locations.Goals as goal
 
 pub returns-in-Ok-clause-told : goal.returns-in-Ok-clause-told

@@ -1,7 +1,8 @@
 use Rattle.std.proofs.Common.{suc, ◌∙◌, ap, take}
+use Rattle.ra_denial.specs.Denials.{no_revision}
+use Rattle.ra_denial.proofs.Stops.{denies_stops}
 use Rattle.ra_browse.specs.Histories.{newest}
-use Rattle.ra_browse.specs.Answers.{no_revision}
-use Rattle.ra_browse.proofs.Located.{comes_else, denies_stops}
+use Rattle.ra_browse.proofs.Located.{comes_else}
 use Rattle.ra_browse.proofs.location.reached.Goals as goal
 
 pub returns-in-Ok-clause-found : goal.returns-in-Ok-clause-found

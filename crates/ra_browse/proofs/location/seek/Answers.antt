@@ -1,6 +1,7 @@
 use Rattle.std.proofs.Common.{◌++◌, ◌∙◌, arith}
+use Rattle.ra_denial.specs.Denials.{no_revision}
 use Rattle.ra_browse.specs.Histories.{newest}
-use Rattle.ra_browse.specs.Answers.{no_revision, stood_denied}
+use Rattle.ra_browse.specs.Answers.{stood_denied}
 use Rattle.ra_browse.proofs.Located.{first_stops, sought_comes}
 use Rattle.ra_browse.proofs.location.seek.Goals as goal
 

@@ -1,6 +1,7 @@
 use Rattle.std.proofs.Common.{◌++◌, arith}
 use Rattle.ra_serve.specs.Answers.{node_in}
-use Rattle.ra_browse.specs.Answers.{no_revision, place_denied}
+use Rattle.ra_denial.specs.Denials.{no_revision}
+use Rattle.ra_browse.specs.Answers.{place_denied}
 use Rattle.ra_browse.proofs.Located.{first_stops, place_comes}
 use Rattle.ra_browse.proofs.location.stood.Goals as goal
 

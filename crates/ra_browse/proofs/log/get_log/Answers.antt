@@ -1,9 +1,10 @@
 use Rattle.ra_item.specs.Items.{spell}
 use Rattle.browse_wire.specs.Told.{end_item}
 use Rattle.ra_log.specs.Entries.{log_as}
-use Rattle.ra_browse.specs.Tellings.{place_as}
+use Rattle.ra_denial.specs.Places.{place_as}
+use Rattle.ra_denial.proofs.Adding.{more_behind_last}
 use Rattle.ra_browse.proofs.Logged.{tells_found, tells_stop}
-use Rattle.ra_browse.proofs.Adding.{more_logged, more_behind_last}
+use Rattle.ra_browse.proofs.Adding.{more_logged}
 use Rattle.ra_browse.proofs.log.get_log.Goals as goal
 
 pub returns-in-Ok-clause-told : goal.returns-in-Ok-clause-told

@@ -1,6 +1,7 @@
 use Rattle.std.proofs.Common.{arith}
 use Rattle.ra_serve.specs.Ports.{tree_of}
-use Rattle.ra_browse.specs.Answers.{no_revision, paths_denied}
+use Rattle.ra_denial.specs.Denials.{no_revision}
+use Rattle.ra_browse.specs.Answers.{paths_denied}
 use Rattle.ra_browse.specs.Histories.{paths_below}
 use Rattle.ra_browse.proofs.Located.{first_stops}
 use Rattle.ra_browse.proofs.Logged.{places_there}

@@ -1,7 +1,7 @@
 use Rattle.std.proofs.Common.{◌∙◌, arith}
-use Rattle.ra_browse.specs.Answers.{no_revision}
+use Rattle.ra_denial.specs.Denials.{no_revision}
+use Rattle.ra_denial.proofs.Stops.{later_stops}
 use Rattle.ra_browse.proofs.Exits.{stops_later}
-use Rattle.ra_browse.proofs.Logged.{later_stops}
 use Rattle.ra_browse.proofs.log.rows_at.Goals as goal
 
 pub returns-in-Err-shared_props-clause-found : goal.returns-in-Err-shared_props-clause-found

@@ -1,7 +1,8 @@
 use Rattle.std.proofs.Common.{arith, ◌∙◌}
 use Rattle.ra_log.specs.Entries.{log_as}
 use Rattle.ra_serve.specs.Ports.{tree_of}
-use Rattle.ra_browse.specs.Answers.{no_revision, paths_denied}
+use Rattle.ra_denial.specs.Denials.{no_revision}
+use Rattle.ra_browse.specs.Answers.{paths_denied}
 use Rattle.ra_browse.specs.Histories.{newest_logged, paths_below}
 use Rattle.ra_browse.proofs.Located.{first_stops}
 use Rattle.ra_browse.proofs.Logged.{seek_comes}

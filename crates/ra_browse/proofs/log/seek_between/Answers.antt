@@ -1,9 +1,9 @@
 use Rattle.std.proofs.Common.{◌≡◌, ◌∙◌, None, map, subst}
 use Rattle.path_history.specs.Places.{place}
 use Rattle.ra_log.specs.Entries.{log_as}
+use Rattle.ra_denial.specs.Stops.{MayStop}
 use Rattle.ra_browse.specs.Answers.{logged_denied}
 use Rattle.ra_browse.specs.Histories.{paths_below}
-use Rattle.ra_browse.specs.Tellings.{MayStop}
 use Rattle.ra_browse.proofs.Logged.{between_comes, between_stops}
 use Rattle.ra_browse.proofs.log.seek_between.Goals as goal
 

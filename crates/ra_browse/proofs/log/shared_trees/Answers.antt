@@ -1,7 +1,7 @@
 use Rattle.std.proofs.Common.{◌∙◌, suc, take, [], None, refl, sym, ap}
 use Rattle.std.specs.Prelude.{if◌then◌else◌}
 use Rattle.repo_core.specs.Repository.{trees_of}
-use Rattle.ra_browse.specs.Answers.{no_revision}
+use Rattle.ra_denial.specs.Denials.{no_revision}
 use Rattle.ra_browse.proofs.Located.{comes_else}
 use Rattle.ra_browse.proofs.log.shared_trees.Goals as goal
 

@@ -1,5 +1,5 @@
 use Rattle.browse_wire.specs.Urls.{url_read}
-use Rattle.ra_browse.specs.Tellings.{place_as}
+use Rattle.ra_denial.specs.Places.{place_as}
 use Rattle.ra_browse.proofs.Moves.{step_told, stops_told, stops_stay}
 use Rattle.ra_browse.proofs.place.reparent.Goals as goal
 

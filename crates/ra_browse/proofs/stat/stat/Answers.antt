@@ -3,10 +3,12 @@ use Rattle.std.specs.FinMap as finite
 use Rattle.ra_item.specs.Items.{spell}
 use Rattle.browse_wire.specs.Asks.{Stat}
 use Rattle.ra_serve.specs.Answers.{asked}
-use Rattle.ra_browse.specs.Answers.{no_revision, stat_told}
-use Rattle.ra_browse.specs.Tellings.{made_as, place_as}
+use Rattle.ra_denial.specs.Denials.{no_revision}
+use Rattle.ra_denial.specs.Places.{place_as}
+use Rattle.ra_denial.proofs.Adding.{more_stopped}
+use Rattle.ra_browse.specs.Answers.{stat_told}
+use Rattle.ra_browse.specs.Tellings.{made_as}
 use Rattle.ra_browse.proofs.Exits.{tells_bytes, tells_stop, stat_bytes}
-use Rattle.ra_browse.proofs.Adding.{more_stopped}
 use Rattle.ra_serve.proofs.Adding.{more_by}
 use Rattle.ra_browse.proofs.stat.stat.Goals as goal
 

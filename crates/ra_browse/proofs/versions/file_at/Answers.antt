@@ -1,8 +1,9 @@
 use Rattle.std.proofs.Common.{arith, ◌++◌, subst}
 use Rattle.ra_serve.specs.Answers.{node_in}
+use Rattle.ra_denial.specs.Denials.{no_revision}
+use Rattle.ra_denial.specs.Stops.{MayStop}
 use Rattle.ra_browse.specs.Histories.{newer}
-use Rattle.ra_browse.specs.Answers.{no_revision, version_denied}
-use Rattle.ra_browse.specs.Tellings.{MayStop}
+use Rattle.ra_browse.specs.Answers.{version_denied}
 use Rattle.ra_browse.proofs.Located.{first_stops}
 use Rattle.ra_browse.proofs.FileVersions.{file_comes}
 use Rattle.ra_browse.proofs.versions.file_at.Goals as goal

@@ -1,7 +1,8 @@
 use Rattle.std.proofs.Common.{arith, ◌++◌, ◌∙◌}
 use Rattle.ra_serve.specs.Answers.{asked, node_in}
+use Rattle.ra_denial.specs.Denials.{no_revision}
 use Rattle.ra_browse.specs.Histories.{newer}
-use Rattle.ra_browse.specs.Answers.{no_revision, version_denied}
+use Rattle.ra_browse.specs.Answers.{version_denied}
 use Rattle.ra_browse.proofs.Located.{first_stops}
 use Rattle.ra_browse.proofs.FileVersions.{seek_comes}
 use Rattle.ra_browse.proofs.versions.seek.Goals as goal

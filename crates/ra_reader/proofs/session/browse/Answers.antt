@@ -4,7 +4,7 @@ use Rattle.ra_item.specs.ItemStreams.{Answers, meanwhile}
 use Rattle.ra_reader.specs.Sessions.{LoginHas, SessionHas, greeting, place_in, session, commands_of, goes_on, ends_opening}
 use Rattle.ra_serve.specs.Serving.{goes_on_login, ends_at_login}
 use Rattle.ra_reader.specs.Serving.{spelled_login, behind_one}
-use Rattle.ra_browse.specs.Tellings.{place_as}
+use Rattle.ra_denial.specs.Places.{place_as}
 use Rattle.ra_reader.specs.Takings.{placed_as, refusal_for}
 use Rattle.ra_serve.specs.declared.fault.End.TheVariants as end
 use Rattle.ra_reader.proofs.Turning.{as_turn}

@@ -1,7 +1,7 @@
 use Rattle.std.proofs.Common.{[], Ok, true≢false, sym, subst, ◌∙◌, arith}
 use Rattle.ra_item.specs.ItemStreams.{Answers, Stops, meanwhile, reader_of, is_spent, ahead}
 use Rattle.ra_reader.specs.Serving.{BrowsesCommands}
-use Rattle.ra_browse.specs.Tellings.{place_as}
+use Rattle.ra_denial.specs.Places.{place_as}
 use Rattle.ra_serve.proofs.Causes.{stays_here, stays_join}
 use Rattle.ra_serve.proofs.Opening.{by_ended, fault_alone, reader_told, reader_later}
 use Rattle.ra_reader.proofs.Turning.{going_start, going_more, commands_end, commands_stop}

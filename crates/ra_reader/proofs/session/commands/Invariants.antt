@@ -2,7 +2,8 @@ use Rattle.std.proofs.Common.{◌≡◌, ◌≤◌, true, Some}
 use Rattle.repo_core.specs.Repository.{Repository}
 use Rattle.ra_item.specs.ItemStreams.{reader_of, is_spent, ahead}
 use Rattle.ra_serve.specs.Tellings.{Adds}
-use Rattle.ra_browse.specs.Tellings.{place_as, PortStays}
+use Rattle.ra_denial.specs.Places.{place_as}
+use Rattle.ra_denial.specs.Stops.{PortStays}
 use Rattle.ra_reader.specs.Standings.{ready_at}
 use Rattle.ra_reader.specs.Takings.{standing_as}
 use Rattle.ra_reader.proofs.Turning.{Going}

@@ -13,7 +13,7 @@ use Rattle.ra_reader.specs.Sessions.{LoginHas}
 use Rattle.ra_serve.specs.declared.fault.End.TheVariants as end
 use Rattle.ra_reader.proofs.Turning.{as_turn}
 use Rattle.ra_serve.proofs.Opening.{reader_told}
-use Rattle.ra_browse.specs.Tellings.{place_as}
+use Rattle.ra_denial.specs.Places.{place_as}
 use Rattle.ra_reader.proofs.Opening.{by_before, by_end, by_fault, login_said, login_goes, login_bytes, asked_only, other_bytes, none_bytes, other_over, none_over}
 use Rattle.ra_serve.proofs.Adding.{adds_by, adds_more, end_adds, rest_adds}
 use Rattle.ra_reader.proofs.session.log_in.Goals as goal

@@ -1,6 +1,6 @@
 use Rattle.std.proofs.Common.{◌∙◌, sym}
 use Rattle.browse_wire.specs.Asks.{ask_as}
-use Rattle.ra_browse.specs.Tellings.{place_as}
+use Rattle.ra_denial.specs.Places.{place_as}
 use Rattle.ra_reader.specs.Standings.{ready_at}
 use Rattle.ra_reader.proofs.Exits.{passes_ok, by_answer}
 use Rattle.ra_reader.proofs.take.follow.Goals as goal

@@ -1,4 +1,4 @@
-use Rattle.ra_browse.specs.Tellings.{place_as}
+use Rattle.ra_denial.specs.Places.{place_as}
 use Rattle.ra_reader.specs.Standings.{standing_at, Spoilt, Edited}
 use Rattle.ra_reader.proofs.Adding.{passes_adds}
 use Rattle.ra_reader.proofs.take.take.Goals as goal

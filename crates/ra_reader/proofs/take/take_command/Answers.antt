@@ -1,6 +1,6 @@
 use Rattle.browse_wire.specs.Asks.{ask_as}
 use Rattle.browse_wire.specs.AskReading.{ask_in}
-use Rattle.ra_browse.specs.Tellings.{place_as}
+use Rattle.ra_denial.specs.Places.{place_as}
 use Rattle.ra_reader.specs.Standings.{ready_at}
 use Rattle.ra_reader.proofs.Exits.{passes, by_fault, read_fault}
 use Rattle.ra_serve.proofs.Adding.{adds_by}

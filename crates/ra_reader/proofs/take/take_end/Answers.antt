@@ -2,7 +2,7 @@ use Rattle.std.proofs.Common.{subst}
 use Rattle.std.specs.Prelude.{map}
 use Rattle.browse_wire.specs.Asks.{ask_as}
 use Rattle.browse_wire.specs.Reports.{report_as}
-use Rattle.ra_browse.specs.Tellings.{place_as}
+use Rattle.ra_denial.specs.Places.{place_as}
 use Rattle.ra_report.specs.Finishing.{Finishes}
 use Rattle.ra_reader.specs.Takings.{phase_as}
 use Rattle.ra_reader.proofs.Exits.{by_end}

@@ -2,7 +2,7 @@ use Rattle.std.proofs.Common.{ap}
 use Rattle.std.specs.Prelude.{map}
 use Rattle.browse_wire.specs.Asks.{ask_as}
 use Rattle.browse_wire.specs.Reports.{report_as}
-use Rattle.ra_browse.specs.Tellings.{place_as}
+use Rattle.ra_denial.specs.Places.{place_as}
 use Rattle.ra_reader.proofs.Exits.{by_taken, by_stop}
 use Rattle.ra_serve.proofs.Adding.{adds_by}
 use Rattle.ra_reader.proofs.Adding.{adds_stop}

@@ -1,4 +1,4 @@
-use Rattle.ra_browse.specs.Tellings.{place_as}
+use Rattle.ra_denial.specs.Places.{place_as}
 use Rattle.ra_reader.proofs.Exits.{by_reply}
 use Rattle.ra_reader.proofs.take.take_reply.Goals as goal
 

@@ -2,7 +2,7 @@ use Rattle.std.proofs.Common.{◌≡◌, sym, subst}
 use Rattle.std.specs.Prelude.{map}
 use Rattle.browse_wire.specs.Asks.{ask_as}
 use Rattle.browse_wire.specs.Reports.{report_as, report_in}
-use Rattle.ra_browse.specs.Tellings.{place_as}
+use Rattle.ra_denial.specs.Places.{place_as}
 use Rattle.ra_reader.specs.Standings.{ready_at, standing_at, Spoilt, said_in}
 use Rattle.ra_reader.specs.Takings.{reporting_as, standing_as, phase_as, said_as}
 use Rattle.ra_reader.proofs.Exits.{passes, by_more, by_given_up, by_spoiling}

@@ -1,6 +1,6 @@
 use Rattle.std.proofs.Common.{◌≡◌, refl, sym, subst}
 use Rattle.browse_wire.specs.Reports.{report_as, report_in}
-use Rattle.ra_browse.specs.Tellings.{place_as}
+use Rattle.ra_denial.specs.Places.{place_as}
 use Rattle.ra_reader.specs.Standings.{Idle, AtEnd, GivenUp, said_in}
 use Rattle.ra_reader.specs.Takings.{said_as}
 use Rattle.ra_reader.proofs.Exits.{by_spoilt, by_spoilt_more, by_spoilt_again}

@@ -2,7 +2,7 @@ use Rattle.std.proofs.Common.{map}
 use Rattle.uuid.specs.Text.{hyphenated_text, lower}
 use Rattle.browse_wire.specs.Asks.{ask_as}
 use Rattle.browse_wire.specs.Reports.{report_as}
-use Rattle.ra_browse.specs.Tellings.{place_as}
+use Rattle.ra_denial.specs.Places.{place_as}
 use Rattle.ra_report.proofs.Adding.{sent_adds, refused_adds}
 use Rattle.ra_report.proofs.Planning.{finishes_sent, finishes_stopped}
 use Rattle.ra_report.proofs.answer.finish.Goals as goal

@@ -1,7 +1,7 @@
 use Rattle.std.proofs.Common.{arith}
 use Rattle.ra_serve.specs.Answers.{asked}
 use Rattle.ra_serve.specs.Ports.{tree_of}
-use Rattle.ra_browse.specs.Answers.{no_revision}
+use Rattle.ra_denial.specs.Denials.{no_revision}
 use Rattle.ra_report.specs.Orders.{place_denied}
 use Rattle.ra_report.proofs.Calls.{first_stops}
 use Rattle.ra_report.proofs.Folders.{wanted_comes}

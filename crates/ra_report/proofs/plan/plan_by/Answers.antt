@@ -1,6 +1,6 @@
 use Rattle.std.proofs.Common.{map}
 use Rattle.browse_wire.specs.Reports.{report_as}
-use Rattle.ra_browse.specs.Tellings.{place_as}
+use Rattle.ra_denial.specs.Places.{place_as}
 use Rattle.ra_report.proofs.Planning.{plan_trimmed}
 use Rattle.ra_report.proofs.plan.plan_by.Goals as goal
 

@@ -3,7 +3,7 @@ use Rattle.std.specs.Option.{option_or}
 use Rattle.browse_wire.specs.Reports.{report_as}
 use Rattle.ra_serve.specs.Answers.{asked}
 use Rattle.ra_serve.specs.Ports.{tree_of}
-use Rattle.ra_browse.specs.Tellings.{place_as}
+use Rattle.ra_denial.specs.Places.{place_as}
 use Rattle.ra_report.specs.Orders.{wanted_denied, wanted_in}
 use Rattle.ra_report.specs.Reports.{reports_denied, reported}
 use Rattle.ra_report.specs.Switches.{kept, switches_denied}

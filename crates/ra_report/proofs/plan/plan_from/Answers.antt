@@ -3,8 +3,8 @@ use Rattle.std.specs.Option.{option_or}
 use Rattle.std.specs.FinMap as finite
 use Rattle.node_base.specs.Path.{same_path}
 use Rattle.browse_wire.specs.Reports.{report_as}
-use Rattle.ra_browse.specs.Answers.{no_revision}
-use Rattle.ra_browse.specs.Tellings.{place_as}
+use Rattle.ra_denial.specs.Denials.{no_revision}
+use Rattle.ra_denial.specs.Places.{place_as}
 use Rattle.ra_report.specs.Reports.{reports_denied, reported, base_of}
 use Rattle.ra_report.specs.Switches.{kept, switches_denied}
 use Rattle.ra_report.proofs.Calls.{first_stops}

@@ -1,7 +1,7 @@
 use Rattle.std.proofs.Common.{map}
 use Rattle.browse_wire.specs.Asks.{ask_as}
 use Rattle.browse_wire.specs.Reports.{report_as}
-use Rattle.ra_browse.specs.Tellings.{place_as}
+use Rattle.ra_denial.specs.Places.{place_as}
 use Rattle.ra_report.specs.Orders.{order_denied, revision_of, place_of, target_of, keeps}
 use Rattle.ra_report.specs.Edits.{edit_denied}
 use Rattle.ra_report.proofs.Calls.{denied_first}

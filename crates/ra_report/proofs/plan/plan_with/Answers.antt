@@ -1,8 +1,8 @@
 use Rattle.std.proofs.Common.{◌∙◌, [], sym, ap, subst}
 use Rattle.std.specs.FinMap as finite
 use Rattle.node_base.specs.Path.{same_path}
-use Rattle.ra_browse.specs.Answers.{no_revision}
-use Rattle.ra_browse.specs.Tellings.{Denies}
+use Rattle.ra_denial.specs.Denials.{no_revision}
+use Rattle.ra_denial.specs.Stops.{Denies}
 use Rattle.ra_report.specs.Switches.{kept, switches_denied}
 use Rattle.ra_report.proofs.Calls.{denied_first}
 use Rattle.ra_report.proofs.Planning.{plan_kept}

@@ -3,8 +3,8 @@ use Rattle.std.specs.Option.{option_or}
 use Rattle.dump_load.specs.Faults.{fault_if}
 use Rattle.node_base.specs.Limits.{fits}
 use Rattle.ra_serve.specs.Ports.{tree_of}
-use Rattle.ra_browse.specs.Answers.{no_revision}
-use Rattle.ra_browse.specs.declared.denial.Denial.TheVariants.{NoPath}
+use Rattle.ra_denial.specs.Denials.{no_revision}
+use Rattle.ra_denial.specs.declared.denial.Denial.TheVariants.{NoPath}
 use Rattle.ra_report.specs.Reports.{begun_denied}
 use Rattle.ra_report.proofs.Calls.{denied_first}
 use Rattle.ra_report.proofs.Folders.{here_comes}

@@ -1,7 +1,7 @@
 use Rattle.std.proofs.Common.{◌+◌, ◌∙◌, drop, map, arith}
 use Rattle.tree_reports.specs.Reports.{content_at}
 use Rattle.browse_wire.specs.Reports.{report_as}
-use Rattle.ra_browse.specs.Tellings.{place_as}
+use Rattle.ra_denial.specs.Places.{place_as}
 use Rattle.ra_report.specs.Reports.{having}
 use Rattle.ra_report.proofs.Later.{one_less, next_left, none_left}
 use Rattle.ra_report.proofs.report.take_all.Goals as goal

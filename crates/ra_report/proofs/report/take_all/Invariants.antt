@@ -2,7 +2,8 @@ use Rattle.std.proofs.Common.{◌≡◌, drop, map, Some}
 use Rattle.tree_reports.specs.Reports.{content_at}
 use Rattle.browse_wire.specs.Reports.{report_as}
 use Rattle.repo_core.specs.Repository.{Repository}
-use Rattle.ra_browse.specs.Tellings.{place_as, PortStays}
+use Rattle.ra_denial.specs.Places.{place_as}
+use Rattle.ra_denial.specs.Stops.{PortStays}
 use Rattle.ra_report.specs.Reports.{having}
 use Rattle.ra_report.proofs.Later.{IsLeft}
 use Rattle.ra_report.proofs.report.take_all.Given as goal

@@ -1,6 +1,6 @@
 use Rattle.std.proofs.Common.{◌∙◌, ap, map}
 use Rattle.browse_wire.specs.Reports.{report_as}
-use Rattle.ra_browse.specs.Tellings.{place_as}
+use Rattle.ra_denial.specs.Places.{place_as}
 use Rattle.ra_report.specs.Reports.{aimed, aims_denied, whole_denied}
 use Rattle.ra_report.proofs.Calls.{denied_first}
 use Rattle.ra_report.proofs.Targets.{aimed_comes}

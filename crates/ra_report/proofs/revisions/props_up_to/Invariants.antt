@@ -1,6 +1,6 @@
 use Rattle.std.proofs.Common.{◌≡◌, ◌≤◌, take, Some}
 use Rattle.repo_core.specs.Repository.{Repository}
-use Rattle.ra_browse.specs.Tellings.{PortStays}
+use Rattle.ra_denial.specs.Stops.{PortStays}
 use Rattle.ra_report.specs.Edits.{all_props}
 use Rattle.ra_report.proofs.revisions.props_up_to.Given as goal
 

@@ -1,6 +1,6 @@
 use Rattle.std.proofs.Common.{sym, ◌∙◌}
 use Rattle.ra_history.proofs.Sharing.{pushed}
-use Rattle.ra_browse.proofs.Causes.{is_there}
+use Rattle.ra_denial.proofs.Causes.{is_there}
 use Rattle.ra_report.proofs.Sharing.{props_more}
 use Rattle.ra_report.proofs.revisions.push_props.Goals as goal
 

@@ -2,7 +2,7 @@ use Rattle.std.proofs.Common.{arith}
 use Rattle.tree_reports.specs.Reports.{content_at}
 use Rattle.browse_wire.specs.Reports.{reported_as}
 use Rattle.ra_serve.specs.Ports.{tree_of}
-use Rattle.ra_browse.specs.Answers.{no_revision}
+use Rattle.ra_denial.specs.Denials.{no_revision}
 use Rattle.ra_report.specs.Reports.{placing_denied}
 use Rattle.ra_report.specs.Shown.{shown_of}
 use Rattle.ra_report.proofs.Calls.{first_stops}

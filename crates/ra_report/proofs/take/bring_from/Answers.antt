@@ -1,6 +1,6 @@
 use Rattle.std.proofs.Common.{sym, subst}
 use Rattle.tree_reports.specs.Reports.{content_at}
-use Rattle.ra_browse.specs.Tellings.{Denies}
+use Rattle.ra_denial.specs.Stops.{Denies}
 use Rattle.ra_report.specs.Reports.{placing_denied}
 use Rattle.ra_report.proofs.Takes.{taken_none, taken_denies}
 use Rattle.ra_report.proofs.take.bring_from.Goals as goal

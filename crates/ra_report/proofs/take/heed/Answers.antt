@@ -1,6 +1,6 @@
 use Rattle.std.proofs.Common.{sym, ◌∙◌}
 use Rattle.tree_reports.specs.Reports.{content_at}
-use Rattle.ra_browse.specs.Tellings.{place_as}
+use Rattle.ra_denial.specs.Places.{place_as}
 use Rattle.ra_report.specs.Reports.{having}
 use Rattle.ra_report.proofs.Takes.{heeded_as, passed_over}
 use Rattle.ra_report.proofs.take.heed.Goals as goal

@@ -1,6 +1,6 @@
 use Rattle.tree_reports.specs.Reports.{content_at}
 use Rattle.browse_wire.specs.Reports.{reported_as}
-use Rattle.ra_browse.specs.Tellings.{place_as}
+use Rattle.ra_denial.specs.Places.{place_as}
 use Rattle.ra_report.specs.Reports.{having}
 use Rattle.ra_report.proofs.Takes.{set_comes}
 use Rattle.ra_report.proofs.take.set_path.Goals as goal

@@ -1,5 +1,5 @@
 use Rattle.tree_reports.specs.Reports.{content_at}
-use Rattle.ra_browse.specs.Tellings.{place_as}
+use Rattle.ra_denial.specs.Places.{place_as}
 use Rattle.ra_report.specs.Reports.{having}
 use Rattle.ra_report.proofs.Takes.{delete_comes, taken_as}
 use Rattle.ra_report.proofs.take.take.Goals as goal

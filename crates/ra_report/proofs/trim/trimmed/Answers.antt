@@ -1,6 +1,6 @@
 use Rattle.std.proofs.Common.{◌≡◌, ◌∙◌, None, ap, map, subst, sym}
 use Rattle.browse_wire.specs.Reports.{report_as}
-use Rattle.ra_browse.specs.Tellings.{Decides}
+use Rattle.ra_denial.specs.Stops.{Decides}
 use Rattle.ra_report.specs.Plans.{IsTrimmed, IsTrimmedBy}
 use Rattle.ra_report.specs.Reports.{aimed}
 use Rattle.ra_report.proofs.trim.trimmed.Goals as goal

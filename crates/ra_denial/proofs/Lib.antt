@@ -1,0 +1,4 @@
+pub mod Adding
+pub mod Causes
+pub mod Places
+pub mod Stops

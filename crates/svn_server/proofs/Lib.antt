@@ -1,0 +1,2 @@
+pub mod Greeted
+pub mod Served
