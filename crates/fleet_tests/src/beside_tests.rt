@@ -1,36 +1,15 @@
-//! Two mirrors' jobs that run beside one another.
+//! Two mirrors' jobs that run beside one another, and without a worker.
 
-use crate::fleets::{fleet_of, tells, unrefused};
-use crate::gates::{Holding, Seen, nothing_seen, shared};
+use crate::fleets::brings_up_two;
+use crate::gates::{Holding, nothing_seen, shared};
+use fleet_shares::Unheld;
 use std::alloc::Global;
 use std::process::Abort;
+use std::sync::Wait;
 use std::sync::atomic::Ordering;
-use std::sync::{Arc, Wait};
 use std::test::Fail;
 use std::thread::Threads;
 use std::time::Clock;
-
-// Two mirrors are brought up behind a gate that tells what it has seen.
-fn brings_up_two<R: Threads + Wait + Abort + Clock + Clone + Send + Sync + Drop + 'static>(
-    rt: &R,
-    alloc: Global,
-    seen: Arc<Seen>,
-) -> bool {
-    let clock = rt.clone().expect(rt, "memory");
-    let gate = Holding { clock, seen };
-    let stores = fleet_of(rt, alloc, 2, 2);
-    tells(
-        rt,
-        alloc,
-        stores,
-        unrefused(rt, alloc, 2),
-        2,
-        gate,
-        &[2, 2],
-        2,
-        2,
-    )
-}
 
 // Whether the first mirror's job is held until the second's has ended, and both mirrors are brought up.
 fn run_beside<R: Threads + Wait + Abort + Clock + Clone + Send + Sync + Drop + 'static>(
@@ -38,7 +17,11 @@ fn run_beside<R: Threads + Wait + Abort + Clock + Clone + Send + Sync + Drop + '
     alloc: Global,
 ) -> bool {
     let seen = nothing_seen(rt, alloc);
-    let is_up = brings_up_two(rt, alloc, shared(rt, &seen));
+    let gate = Holding {
+        clock: rt.clone().expect(rt, "memory"),
+        seen: shared(rt, &seen),
+    };
+    let is_up = brings_up_two(rt, alloc, 2, 2, gate);
     let ended = seen.ended.load(Ordering::SeqCst);
     let waited = seen.waited.load(Ordering::SeqCst);
     is_up && ended == 2 && waited == 1
@@ -47,5 +30,11 @@ fn run_beside<R: Threads + Wait + Abort + Clock + Clone + Send + Sync + Drop + '
 #[test]
 fn two_mirrors_are_brought_up_beside_one_another(rt: HostRuntime) -> Result<(), Fail> {
     assert!(rt; run_beside(&rt, rt.alloc()));
+    Ok(())
+}
+
+#[test]
+fn without_a_worker_who_gives_the_orders_runs_them(rt: HostRuntime) -> Result<(), Fail> {
+    assert!(rt; brings_up_two(&rt, rt.alloc(), 12, 0, Unheld));
     Ok(())
 }

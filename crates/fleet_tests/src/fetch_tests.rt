@@ -63,8 +63,8 @@ fn has_both(rt: &impl Abort, alloc: Global, tree: &Tree) -> bool {
     count == 3 && tree.get(old.names()).is_some() && tree.get(new.names()).is_some()
 }
 
-// What the seat's fetch of revision 2 comes to: the number of its refusal; 0 where the set is the copy, and the seat
-// reads the tree that it makes.
+// What the seat's fetch of revision 2 comes to: the number of its refusal; 0 where the set is the copy, the seat reads the
+// tree that it makes, and revision 3 is none (21).
 fn fetches<R: Wait + Abort, L: RowName>(
     rt: &R,
     alloc: Global,
@@ -75,8 +75,15 @@ fn fetches<R: Wait + Abort, L: RowName>(
         Ok((set, _props)) => set,
         Err(fault) => return fault.number(),
     };
+    let above = match share.fetch(rt, alloc, seat, RevNo::new(3)) {
+        Ok(_) => 0,
+        Err(fault) => fault.number(),
+    };
     match share.read_at(seat, RevNo::new(2)) {
-        Some(rev) if is_the_copy(rt, alloc, &set) && has_both(rt, alloc, &rev.tree) => 0,
+        Some(rev)
+            if above == 21 && is_the_copy(rt, alloc, &set) && has_both(rt, alloc, &rev.tree) => {
+            0
+        }
         _ => MISSED,
     }
 }
@@ -124,8 +131,8 @@ fn commits<R: Wait + Abort + Clock, L: RowName>(
     }
 }
 
-// Two threads whose seats fetch revision 2, and a third that commits it: whether each did as it is to.
-fn fetch_beside<R: Threads + Wait + Abort + Clock + Sync, L: RowName + Send + Sync>(
+/// Two threads whose seats fetch revision 2, and a third that commits it: whether each did as it is to.
+pub(crate) fn fetch_beside<R: Threads + Wait + Abort + Clock + Sync, L: RowName + Send + Sync>(
     rt: &R,
     alloc: Global,
     share: &MasterShare<L, MemDisk>,
@@ -151,7 +158,7 @@ fn has(props: &Props, text: &[u8]) -> bool {
     props.get(b"svn:log") == Some(text)
 }
 
-// Changes the log of revision 1 to `ho`, and then puts its properties with the log `hu`: each is seen at once.
+// Changes the log `hi` of revision 1 to `ho`, and then puts its properties with the log `hu`: each is seen at once.
 fn changes_twice<R: Wait + Abort, L: RowName>(
     rt: &R,
     alloc: Global,
@@ -160,6 +167,7 @@ fn changes_twice<R: Wait + Abort, L: RowName>(
     let number = RevNo::new(1);
     let name = log_name(rt, alloc);
     let any = Expected::DontCare;
+    let before = share.fetch_props(rt, number).expect(rt, "properties");
     share
         .change_prop(rt, alloc, number, &name, Some(b"ho"), &any)
         .expect(rt, "a change");
@@ -168,7 +176,7 @@ fn changes_twice<R: Wait + Abort, L: RowName>(
         .put_props(rt, alloc, number, log(rt, alloc, b"hu"))
         .expect(rt, "a change");
     let second = share.fetch_props(rt, number).expect(rt, "properties");
-    has(&first, b"ho") && has(&second, b"hu")
+    has(&before, b"hi") && has(&first, b"ho") && has(&second, b"hu")
 }
 
 // Whether the first sync of a mirror that was begun just before gives it the master's second map of revision 1.
@@ -184,19 +192,6 @@ fn has_second_map<R: Wait + Abort, M: RowName, L: MirrorName>(
     let number = ran(rt, alloc, master, mirror, &board, b"a", false);
     let copied = mirror.rev_props(rt, RevNo::new(1)).expect(rt, "properties");
     changed && begun && number == 0 && has(&copied, b"hu")
-}
-
-fn fetched_of<R: Threads + Wait + Abort + Clock + Sync, M: RowName + Send + Sync>(
-    rt: &R,
-    alloc: Global,
-    opened: OpenedStore<MemDisk>,
-) -> bool
-    requires { cells_of opened ≡ M.cells }
-{
-    let share = opened.named::<M>();
-    let answer = fetch_beside(rt, alloc, &share);
-    let _disk = share.close().into_store().into_disk();
-    answer
 }
 
 fn copied_of<R: Wait + Abort, M: RowName, L: MirrorName>(
@@ -216,20 +211,10 @@ fn copied_of<R: Wait + Abort, M: RowName, L: MirrorName>(
     answer
 }
 
-fn fetch<R: Threads + Wait + Abort + Clock + Sync>(rt: &R, alloc: Global) -> bool {
-    let opened = opened(rt, alloc, disk(rt, alloc));
-    fetched_of::<R, Brand>(rt, alloc, opened)
-}
-
 fn copy<R: Wait + Abort>(rt: &R, alloc: Global) -> bool {
     let source = opened(rt, alloc, disk(rt, alloc));
     let target = mirror_on(rt, alloc, blank_disk(rt, alloc, MIRROR));
     copied_of::<R, Brand, Brand>(rt, alloc, source, target)
-}
-
-#[test]
-fn two_seats_fetch_while_a_third_thread_commits(rt: HostRuntime) {
-    assert!(rt; fetch(&rt, rt.alloc()));
 }
 
 #[test]

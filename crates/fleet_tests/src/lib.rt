@@ -50,8 +50,6 @@ mod stores;
 #[cfg(test)]
 mod stream_tests;
 #[cfg(test)]
-mod told_tests;
-#[cfg(test)]
 mod word_tests;
 #[cfg(test)]
 mod worker_tests;

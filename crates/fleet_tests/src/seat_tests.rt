@@ -3,13 +3,13 @@
 ghost use Rattle.std.specs.Prelude.{◌≡◌};
 ghost use Rattle.store_share.specs.Opened.{cells_of};
 
+use crate::crowd_made::opened;
+use crate::fetch_tests::fetch_beside;
 use crate::stores::{copied, disk, log, log_name};
-use dump_load::ChangeSet;
 use fleet_disk::{Disk, MemDisk};
 use node_base::RevNo;
-use path_tree::Tree;
 use repo_core::Expected;
-use repo_store::{RepoStore, StoreFault};
+use repo_store::StoreFault;
 use std::alloc::Global;
 use std::marker::Brand;
 use std::process::Abort;
@@ -17,6 +17,7 @@ use std::rt::HostRuntime;
 use std::sync::Wait;
 use std::thread;
 use std::thread::Threads;
+use std::time::Clock;
 use store_share::{MasterShare, OpenedStore, ReaderSeat, RowName};
 
 // The number of a refusal, 0 where there is none.
@@ -49,96 +50,12 @@ fn commit_copy<R: Wait + Abort, L: RowName, D: Disk>(
     number_of(share.commit(rt, alloc, &mut seat, base, set, props, None))
 }
 
-// Whether two sets change the same paths in the same way.
-fn are_same(one: &ChangeSet, other: &ChangeSet) -> bool {
-    if one.changes().len() != other.changes().len() {
-        return false;
-    }
-    for (change, found) in one.changes().iter().zip(other.changes().iter()) {
-        if change.path != found.path || change.action != found.action {
-            return false;
-        }
-    }
-    true
-}
-
-// Whether two trees have the same paths, so many.
-fn have_same(alloc: Global, one: &Tree, other: &Tree, count: usize) -> bool {
-    let (Ok(these), Ok(those)) = (one.list(alloc), other.list(alloc)) else {
-        return false;
-    };
-    for (entry, found) in these.iter().zip(those.iter()) {
-        if entry.path.len() != found.path.len() || entry.node.changed != found.node.changed {
-            return false;
-        }
-    }
-    these.len() == count && those.len() == count
-}
-
-// Whether two seats fetch the same set of revision 2, and read the same tree of it; revision 3 is none (21).
-fn fetch_the_same<R: Wait + Abort, L: RowName>(
-    rt: &R,
-    alloc: Global,
-    share: &MasterShare<L, MemDisk>,
-    mut one: ReaderSeat<L>,
-    mut other: ReaderSeat<L>,
-) -> bool {
-    let (set, _props) = share
-        .fetch(rt, alloc, &mut one, RevNo::new(2))
-        .expect(rt, "a set");
-    let (found, _props) = share
-        .fetch(rt, alloc, &mut other, RevNo::new(2))
-        .expect(rt, "a set");
-    let read = share
-        .read_at(&mut one, RevNo::new(2))
-        .expect(rt, "a revision");
-    let there = share
-        .read_at(&mut other, RevNo::new(2))
-        .expect(rt, "a revision");
-    are_same(&set, &found)
-        && are_same(&set, &read.set)
-        && have_same(alloc, &read.tree, &there.tree, 3)
-        && number_of(share.fetch(rt, alloc, &mut one, RevNo::new(3))) == 21
-}
-
-// Whether a revision that a thread of its own commits is the same for two seats that were there before.
-fn is_the_same<R: Threads + Wait + Abort + Sync, L: RowName + Send + Sync>(
-    rt: &R,
-    alloc: Global,
-    share: &MasterShare<L, MemDisk>,
-) -> bool {
-    let one = seat(rt, alloc, share);
-    let other = seat(rt, alloc, share);
-    let (number, before) = thread::join(
-        rt,
-        move || commit_copy(rt, alloc, share, RevNo::new(1)),
-        move || one.seen() == RevNo::new(1),
-    );
-    let one = seat(rt, alloc, share);
-    number == 0 && before && fetch_the_same(rt, alloc, share, one, other)
-}
-
 // The log of revision 1.
 fn has_log<R: Wait, L: RowName>(rt: &R, share: &MasterShare<L, MemDisk>, text: &[u8]) -> bool {
     match share.fetch_props(rt, RevNo::new(1)) {
         Ok(props) => props.get(b"svn:log") == Some(text),
         Err(_) => false,
     }
-}
-
-// Whether a change of one property, and then of all, is seen at once.
-fn sees_changes<R: Wait + Abort, L: RowName>(
-    rt: &R,
-    alloc: Global,
-    share: &MasterShare<L, MemDisk>,
-) -> bool {
-    let name = log_name(rt, alloc);
-    let before = has_log(rt, share, b"hi");
-    let any = Expected::DontCare;
-    let changed = number_of(share.change_prop(rt, alloc, RevNo::new(1), &name, Some(b"ho"), &any));
-    let between = has_log(rt, share, b"ho");
-    let put = number_of(share.put_props(rt, alloc, RevNo::new(1), log(rt, alloc, b"hu")));
-    before && changed == 0 && between && put == 0 && has_log(rt, share, b"hu")
 }
 
 // Whether what is refused, with its number, leaves the newest revision and its properties.
@@ -219,22 +136,20 @@ fn sees_what_another_saw<R: Wait + Abort, L: RowName>(
 // What is asked of a share.
 #[derive(Clone, Copy, Drop)]
 enum Case {
-    Same,
-    Changes,
+    Fetch,
     Refusals,
     Beside,
     Meets,
 }
 
-fn judged<R: Threads + Wait + Abort + Sync, L: RowName + Send + Sync>(
+fn judged<R: Threads + Wait + Abort + Clock + Sync, L: RowName + Send + Sync>(
     rt: &R,
     alloc: Global,
     share: &MasterShare<L, MemDisk>,
     case: Case,
 ) -> bool {
     match case {
-        Case::Same => is_the_same(rt, alloc, share),
-        Case::Changes => sees_changes(rt, alloc, share),
+        Case::Fetch => fetch_beside(rt, alloc, share),
         Case::Refusals => refuses(rt, alloc, share),
         Case::Beside => reads_beside(rt, alloc, share),
         Case::Meets => sees_what_another_saw(rt, alloc, share),
@@ -242,7 +157,7 @@ fn judged<R: Threads + Wait + Abort + Sync, L: RowName + Send + Sync>(
 }
 
 // The same of an opened store.
-fn judged_of<R: Threads + Wait + Abort + Sync, L: RowName + Send + Sync>(
+fn judged_of<R: Threads + Wait + Abort + Clock + Sync, L: RowName + Send + Sync>(
     rt: &R,
     alloc: Global,
     opened: OpenedStore<MemDisk>,
@@ -257,31 +172,15 @@ fn judged_of<R: Threads + Wait + Abort + Sync, L: RowName + Send + Sync>(
     answer
 }
 
-// An opened store of revisions 0 and 1.
-fn opened(rt: &impl Abort, alloc: Global) -> OpenedStore<MemDisk> {
-    let store = match RepoStore::open(alloc, disk(rt, alloc)) {
-        Ok(store) => store,
-        Err(_refused) => rt.abort(),
-    };
-    match OpenedStore::of(alloc, store) {
-        Ok(opened) => opened,
-        Err(_refused) => rt.abort(),
-    }
-}
-
-fn passes<R: Threads + Wait + Abort + Sync>(rt: &R, alloc: Global, case: Case) -> bool {
-    let opened = opened(rt, alloc);
+// The same of a store of revisions 0 and 1.
+fn passes<R: Threads + Wait + Abort + Clock + Sync>(rt: &R, alloc: Global, case: Case) -> bool {
+    let opened = opened(rt, alloc, disk(rt, alloc));
     judged_of::<R, Brand>(rt, alloc, opened, case)
 }
 
 #[test]
-fn two_seats_fetch_what_a_third_thread_committed(rt: HostRuntime) {
-    assert!(rt; passes(&rt, rt.alloc(), Case::Same));
-}
-
-#[test]
-fn changes_of_properties_are_seen(rt: HostRuntime) {
-    assert!(rt; passes(&rt, rt.alloc(), Case::Changes));
+fn two_seats_fetch_while_a_third_thread_commits(rt: HostRuntime) {
+    assert!(rt; passes(&rt, rt.alloc(), Case::Fetch));
 }
 
 #[test]

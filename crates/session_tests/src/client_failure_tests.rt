@@ -1,6 +1,5 @@
 //! Readers and writers that fail within an answer.
 
-use crate::answer_tests::COPIED;
 use crate::client_sessions::{BROKEN, Line, OPENED, number_of, open, told};
 use crate::sets::history;
 use node_base::RevNo;
@@ -8,6 +7,10 @@ use path_tree::Tree;
 use std::alloc::Global;
 use std::process::Abort;
 use std::rt::HostRuntime;
+
+// Revision 2, which copies a directory without one of its files.
+const COPIED: &[u8] =
+    b"( success ( ( ) 0: ) ) ( revprops ( ) ) ( target-rev ( 2 ) ) ( open-root ( ( 1 ) 2:t0 ) ) ( add-dir ( 1:b 2:t0 2:t1 ( 2:/t 1 ) ) ) ( delete-entry ( 3:b/x ( 1 ) 2:t1 ) ) ( close-dir ( 2:t1 ) ) ( close-dir ( 2:t0 ) ) ( finish-replay ( ) ) ( success ( ) ) ";
 
 // What a fetch of revision 2 is refused for over these bytes.
 fn fetched(alloc: Global, trees: &[Tree], bytes: &[u8], line: &Line) -> Option<u8> {

@@ -24,38 +24,20 @@ fn opens(alloc: Global, bytes: &[u8], line: &Line, said: &[u8]) -> bool {
     is_known && output.bytes() == said && output.handed_on() == said.len()
 }
 
-#[test]
-fn it_is_done_however_it_comes(rt: HostRuntime) {
-    let alloc = rt.alloc();
-    assert!(rt; opens(alloc, OPENED, &WHOLE, SAID));
-    assert!(rt; opens(alloc, OPENED, &SINGLE, SAID));
-}
-
 // No way to say who one is, an old version beside the one that is spoken, an identity in capitals, and more behind
-// each prototype.
+// each prototype: nothing is said where nothing is asked.
 const OTHER: &[u8] =
     b"( success ( 1 3 ( EXTERNAL ) ( ) 9 ) x )\n( success ( ( ) 0: ) ) ( success ( 36:6A1F0C3E-0000-4000-8000-000000000001 21:svn://127.0.0.1:3690/ ( mergeinfo ) ( ) ) ) ";
 
 const HELLO: &[u8] = b"( 2 ( edit-pipeline ) 21:svn://127.0.0.1:3690/ ) ";
 
 #[test]
-fn nothing_is_said_where_nothing_is_asked(rt: HostRuntime) {
-    let alloc = rt.alloc();
-    assert!(rt; opens(alloc, OTHER, &WHOLE, HELLO));
-    assert!(rt; opens(alloc, OTHER, &SINGLE, HELLO));
+fn it_is_done_however_it_comes(rt: HostRuntime) {
+    for (bytes, said) in &[(OPENED, SAID), (OTHER, HELLO)] {
+        assert!(rt; opens(rt.alloc(), bytes, &WHOLE, said));
+        assert!(rt; opens(rt.alloc(), bytes, &SINGLE, said));
+    }
 }
-
-const CRAM: &[u8] =
-    b"( success ( 2 2 ( ) ( ) ) ) ( success ( ( CRAM-MD5 EXTERNAL ) 1:r ) ) ( success ( ) ) ";
-
-const SEVERAL: &[u8] =
-    b"( success ( 2 2 ( ) ( ) ) ) ( success ( ( CRAM-MD5 ANONYMOUS ) 1:r ) ) ( failure ( ) ) ";
-
-const NO_IDENTITY: &[u8] =
-    b"( success ( 2 2 ( ) ( ) ) ) ( success ( ( ) 0: ) ) ( success ( 32:6a1f0c3e000040008000000000000001 1:u ( ) ) ) ";
-
-const NO_LISTS: &[u8] =
-    b"( success ( 2 2 ( ) ( ) ) ) ( success ( ( ) 0: ) ) ( success ( 36:6a1f0c3e-0000-4000-8000-000000000001 1:u ) ) ";
 
 // What an opening is refused for.
 fn refusal(alloc: Global, bytes: &[u8]) -> Option<ClientFault> {
@@ -64,71 +46,55 @@ fn refusal(alloc: Global, bytes: &[u8]) -> Option<ClientFault> {
     if whole == single { whole } else { None }
 }
 
-// The first of these openings that isn't refused for this.
-fn first_other(alloc: Global, table: &[&[u8]], fault: ClientFault) -> Option<usize> {
-    for (place, bytes) in table.iter().enumerate() {
-        if refusal(alloc, bytes) != Some(fault) {
+// Openings of other versions, of other forms, that end between items, that are failures, and that are no items; and what
+// each is refused for.
+const REFUSED: [(&[u8], ClientFault); 16] = [
+    (b"( success ( 1 1 ( ) ( ) ) ) ", ClientFault::BadAnswer),
+    (b"( success ( 3 4 ( ) ( ) ) ) ", ClientFault::BadAnswer),
+    (b"( success ( 2 2 ( ) ) ) ", ClientFault::BadAnswer),
+    (b"( welcome ( 2 2 ( ) ( ) ) ) ", ClientFault::BadAnswer),
+    (b"( success 2 2 ( ) ( ) ) ", ClientFault::BadAnswer),
+    (b"220 ", ClientFault::BadAnswer),
+    (
+        b"( success ( 2 2 ( ) ( ) ) ) ( success ( ( CRAM-MD5 EXTERNAL ) 1:r ) ) ( success ( ) ) ",
+        ClientFault::BadAnswer,
+    ),
+    (
+        b"( success ( 2 2 ( ) ( ) ) ) ( success ( ( ) 0: ) ) ( success ( 32:6a1f0c3e000040008000000000000001 1:u ( ) ) ) ",
+        ClientFault::BadAnswer,
+    ),
+    (
+        b"( success ( 2 2 ( ) ( ) ) ) ( success ( ( ) 0: ) ) ( success ( 36:6a1f0c3e-0000-4000-8000-000000000001 1:u ) ) ",
+        ClientFault::BadAnswer,
+    ),
+    (b"", ClientFault::BadAnswer),
+    (b"( success ( 2 2 ( ) ( ) ) ) ", ClientFault::BadAnswer),
+    (b"( failure ( ( 48 3:bad 0: 0 ) ) ) ", ClientFault::Refused),
+    (b"( failure ( 14:only ANONYMOUS ) ) ", ClientFault::Refused),
+    (
+        b"( success ( 2 2 ( ) ( ) ) ) ( success ( ( CRAM-MD5 ANONYMOUS ) 1:r ) ) ( failure ( ) ) ",
+        ClientFault::Refused,
+    ),
+    (b"( success ( 2 ", ClientFault::Edit(EditFault::Truncated)),
+    (
+        b"HTTP/1.1 200 OK\r\n",
+        ClientFault::Edit(EditFault::BadItem),
+    ),
+];
+
+// The first of these that isn't refused so.
+fn first_other(alloc: Global) -> Option<usize> {
+    for (place, (bytes, fault)) in REFUSED.iter().enumerate() {
+        if refusal(alloc, bytes) != Some(*fault) {
             return Some(place);
         }
     }
     None
 }
 
-const VERSIONS: [&[u8]; 2] = [
-    b"( success ( 1 1 ( ) ( ) ) ) ",
-    b"( success ( 3 4 ( ) ( ) ) ) ",
-];
-
 #[test]
-fn another_version_is_refused(rt: HostRuntime) {
-    none_is_wrong(
-        &rt,
-        first_other(rt.alloc(), &VERSIONS, ClientFault::BadAnswer),
-    );
-}
-
-const FORMS: [&[u8]; 7] = [
-    b"( success ( 2 2 ( ) ) ) ",
-    b"( welcome ( 2 2 ( ) ( ) ) ) ",
-    b"( success 2 2 ( ) ( ) ) ",
-    b"220 ",
-    CRAM,
-    NO_IDENTITY,
-    NO_LISTS,
-];
-
-#[test]
-fn another_form_is_refused(rt: HostRuntime) {
-    none_is_wrong(&rt, first_other(rt.alloc(), &FORMS, ClientFault::BadAnswer));
-}
-
-const FAILURES: [&[u8]; 3] = [
-    b"( failure ( ( 48 3:bad 0: 0 ) ) ) ",
-    b"( failure ( 14:only ANONYMOUS ) ) ",
-    SEVERAL,
-];
-
-#[test]
-fn a_failure_is_told(rt: HostRuntime) {
-    none_is_wrong(
-        &rt,
-        first_other(rt.alloc(), &FAILURES, ClientFault::Refused),
-    );
-}
-
-fn is_fault(alloc: Global, bytes: &[u8], fault: EditFault) -> bool {
-    refusal(alloc, bytes) == Some(ClientFault::Edit(fault))
-}
-
-// Bytes that end between items.
-const ENDING: [&[u8]; 2] = [b"", b"( success ( 2 2 ( ) ( ) ) ) "];
-
-#[test]
-fn a_fault_of_items_is_told(rt: HostRuntime) {
-    let alloc = rt.alloc();
-    assert!(rt; is_fault(alloc, b"( success ( 2 ", EditFault::Truncated));
-    assert!(rt; is_fault(alloc, b"HTTP/1.1 200 OK\r\n", EditFault::BadItem));
-    none_is_wrong(&rt, first_other(alloc, &ENDING, ClientFault::BadAnswer));
+fn no_other_opening_is_taken(rt: HostRuntime) {
+    none_is_wrong(&rt, first_other(rt.alloc()));
 }
 
 // The number of what an opening is refused for behind so many of its bytes, where the reader fails then or ends.

@@ -49,81 +49,62 @@ fn has_told_all(came: Came, refused: Came, bytes: &[u8]) -> Option<bool> {
     (came == refused && begin(bytes, &TOLD)).then_some(false)
 }
 
-// The same of one where so many calls of the output pass, and a later one leads to 49, to an output that has counted it.
-fn tells_by_calls<P: RepoPort>(
+// The same of one where so many reads pass, or so many calls of the output, and a later one leads to this fault. An output
+// that failed has counted it, and no other has.
+fn tells_all<P: RepoPort>(
     alloc: Global,
     port: &mut P,
     sent: &[u8],
     passing: u64,
+    fault: ServeFault,
 ) -> Option<bool> {
+    let has_failed = fault == ServeFault::WriteFailed;
+    let (reads, calls) = if has_failed {
+        (u64::MAX, passing)
+    } else {
+        (passing, u64::MAX)
+    };
     let mut bytes = Vec::new(alloc);
-    let came = served_to(alloc, port, sent, u64::MAX, passing, &mut bytes);
-    let refused = (Err(ServeFault::WriteFailed), Some(true));
-    has_told_all(came, refused, bytes.as_slice())
+    let came = served_to(alloc, port, sent, reads, calls, &mut bytes);
+    has_told_all(came, (Err(fault), Some(has_failed)), bytes.as_slice())
 }
 
-// How many calls of the output have to pass for all to be told.
-fn calls_wanted<P: RepoPort>(alloc: Global, port: &mut P, sent: &[u8]) -> Option<u64> {
+// How many reads, or calls of the output, have to pass for all to be told.
+fn passes_wanted<P: RepoPort>(
+    alloc: Global,
+    port: &mut P,
+    sent: &[u8],
+    fault: ServeFault,
+) -> Option<u64> {
     for passing in 0..1_000 {
-        if tells_by_calls(alloc, port, sent, passing)? {
+        if tells_all(alloc, port, sent, passing, fault)? {
             return Some(passing);
         }
     }
     None
 }
 
-// The same of the copy's repository.
-fn copy_calls(rt: &impl Abort, alloc: Global) -> Option<u64> {
+// The same of the copy's repository, and how many bytes its client sends.
+fn copy_wants(rt: &impl Abort, alloc: Global, fault: ServeFault) -> (Option<u64>, u64) {
     let mut port = copy_port(rt, alloc);
     let sent = asking(rt, alloc, ASKED);
-    let answer = calls_wanted(alloc, &mut port, &sent);
+    let wanted = passes_wanted(alloc, &mut port, &sent, fault);
     drop(port);
-    answer
+    (wanted, sent.len() as u64)
 }
 
 #[test]
 fn an_output_that_fails_comes_back(rt: HostRuntime) {
+    let (wanted, _bytes) = copy_wants(&rt, rt.alloc(), ServeFault::WriteFailed);
     // each of the 14 items that are told takes a write or more, and four times all is handed on
-    assert!(rt; copy_calls(&rt, rt.alloc()) > Some(17));
-}
-
-// Whether a session told all where so many reads pass, and a later one leads to 49 told of the reader, to an output that
-// never failed.
-fn tells_by_reads<P: RepoPort>(
-    alloc: Global,
-    port: &mut P,
-    sent: &[u8],
-    passing: u64,
-) -> Option<bool> {
-    let mut bytes = Vec::new(alloc);
-    let came = served_to(alloc, port, sent, passing, u64::MAX, &mut bytes);
-    let refused = (Err(ServeFault::ReadFailed), Some(false));
-    has_told_all(came, refused, bytes.as_slice())
-}
-
-// How many reads have to pass for all to be told.
-fn reads_wanted<P: RepoPort>(alloc: Global, port: &mut P, sent: &[u8]) -> Option<u64> {
-    for passing in 0..1_000 {
-        if tells_by_reads(alloc, port, sent, passing)? {
-            return Some(passing);
-        }
-    }
-    None
-}
-
-// Whether the copy's repository wants one read for each byte, and the last one, which finds the end.
-fn copy_wants_each(rt: &impl Abort, alloc: Global) -> bool {
-    let mut port = copy_port(rt, alloc);
-    let sent = asking(rt, alloc, ASKED);
-    let bytes = sent.len() as u64;
-    let answer = reads_wanted(alloc, &mut port, &sent) == bytes.checked_add(1);
-    drop(port);
-    answer
+    assert!(rt; wanted > Some(17));
 }
 
 #[test]
 fn a_reader_that_fails_is_told(rt: HostRuntime) {
-    assert!(rt; copy_wants_each(&rt, rt.alloc()));
+    let (wanted, bytes) = copy_wants(&rt, rt.alloc(), ServeFault::ReadFailed);
+    // one read for each byte, and the last one, which finds the end
+    assert!(rt; wanted == bytes.checked_add(1));
 }
 
 // Commands of several kinds, one that isn't there among them, and bytes that end within an item.

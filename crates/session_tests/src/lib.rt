@@ -5,8 +5,6 @@
 #![tactic(auto)]
 
 #[cfg(test)]
-mod answer_tests;
-#[cfg(test)]
 mod client_failure_tests;
 #[cfg(test)]
 mod client_growth_tests;

@@ -141,43 +141,26 @@ const OWN: [(PortFault, &[u8]); 4] = [
     (PortFault::OutOfMemory, NO_MEMORY),
 ];
 
-// Whether a refusal of revision 1 is told behind revision 0 of a range, and the session goes on.
-fn is_refused_within(rt: &impl Abort, alloc: Global, fault: PortFault, told: &[u8]) -> bool {
+// All that is asked of a revision, and then the newest one.
+const ALL: &[u8] = b"( replay ( 1 0 true ) ) ( check-path ( 1:t ( 1 ) ) ) ( rev-proplist ( 1 ) ) \
+    ( change-rev-prop ( 1 1:p 1:v ) ) ( get-latest-rev ( ) ) ";
+
+// Whether a refusal of revision 1 is told behind revision 0 of a range, and to all that is asked of revision 1, and the
+// session goes on.
+fn is_refused(rt: &impl Abort, alloc: Global, fault: PortFault, told: &[u8]) -> bool {
     let mut port = port_refusing(rt, alloc, 1, fault);
-    let answer = [AUTHORISED, BARE, EMPTY, told, AUTHORISED, LATEST];
-    is_answered(rt, alloc, &mut port, RANGE, &answer)
-}
-
-// The first of these refusals for which that isn't so.
-fn first_within(rt: &impl Abort, alloc: Global) -> Option<usize> {
-    for (place, (fault, told)) in OWN.iter().enumerate() {
-        if !is_refused_within(rt, alloc, *fault, told) {
-            return Some(place);
-        }
-    }
-    None
-}
-
-#[test]
-fn a_range_is_refused_within(rt: HostRuntime) {
-    none_is_wrong(&rt, first_within(&rt, rt.alloc()));
-}
-
-// Whether whatever is asked of that revision is refused so.
-fn is_refused_whole(rt: &impl Abort, alloc: Global, fault: PortFault, told: &[u8]) -> bool {
-    let mut port = port_refusing(rt, alloc, 1, fault);
-    let answer = [
+    let within = [AUTHORISED, BARE, EMPTY, told, AUTHORISED, LATEST];
+    let whole = [
         AUTHORISED, told, AUTHORISED, told, AUTHORISED, told, AUTHORISED, told, AUTHORISED, LATEST,
     ];
-    let asked = b"( replay ( 1 0 true ) ) ( check-path ( 1:t ( 1 ) ) ) ( rev-proplist ( 1 ) ) \
-        ( change-rev-prop ( 1 1:p 1:v ) ) ( get-latest-rev ( ) ) ";
-    is_answered(rt, alloc, &mut port, asked, &answer)
+    is_answered(rt, alloc, &mut port, RANGE, &within)
+        && is_answered(rt, alloc, &mut port, ALL, &whole)
 }
 
 // The first of these refusals for which that isn't so.
-fn first_whole(rt: &impl Abort, alloc: Global) -> Option<usize> {
+fn first_other(rt: &impl Abort, alloc: Global) -> Option<usize> {
     for (place, (fault, told)) in OWN.iter().enumerate() {
-        if !is_refused_whole(rt, alloc, *fault, told) {
+        if !is_refused(rt, alloc, *fault, told) {
             return Some(place);
         }
     }
@@ -185,6 +168,6 @@ fn first_whole(rt: &impl Abort, alloc: Global) -> Option<usize> {
 }
 
 #[test]
-fn all_of_a_revision_is_refused(rt: HostRuntime) {
-    none_is_wrong(&rt, first_whole(&rt, rt.alloc()));
+fn what_a_port_refuses_is_told(rt: HostRuntime) {
+    none_is_wrong(&rt, first_other(&rt, rt.alloc()));
 }

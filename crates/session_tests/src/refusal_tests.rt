@@ -1,8 +1,6 @@
 //! What answers are refused for, and what follows a refusal.
 
-use crate::client_sessions::{
-    Line, Port, SINGLE, WHOLE, is_said, none_is_wrong, number_of, open, told,
-};
+use crate::client_sessions::{Line, Port, SINGLE, WHOLE, is_said, none_is_wrong, open, told};
 use crate::sets::history;
 use delta_editor::EditorFault;
 use node_base::RevNo;
@@ -24,12 +22,9 @@ fn faults(port: &mut Port<'_>, trees: &[Tree]) -> Option<(ClientFault, ClientFau
     Some((first, later, last))
 }
 
-// The first of these, where the others are as they are to be: behind a refusal that is no answer nothing is asked.
+// The first of these, where the others are the same: behind a refusal that is no answer nothing is asked.
 fn first_of(faults: (ClientFault, ClientFault, ClientFault), said: &[u8]) -> Option<ClientFault> {
     let (first, later, last) = faults;
-    if first == ClientFault::Refused {
-        return Some(first);
-    }
     (later == first && last == first && is_said(said, ASKED)).then_some(first)
 }
 
@@ -61,25 +56,15 @@ fn refusal(rt: &impl Abort, alloc: Global, trees: &[Tree], answers: &[u8]) -> Op
 // Answers, and what a fetch of revision 2 is refused for over them.
 type Refused<'a> = (&'a [u8], ClientFault);
 
-// The first of these that are refused otherwise, over these trees.
-fn first_over(
-    rt: &impl Abort,
-    alloc: Global,
-    trees: &[Tree],
-    table: &[Refused<'_>],
-) -> Option<usize> {
+// The first of these that are refused otherwise.
+fn first_other(rt: &impl Abort, alloc: Global, table: &[Refused<'_>]) -> Option<usize> {
+    let trees = history(rt, alloc);
     for (place, (answers, fault)) in table.iter().enumerate() {
-        if refusal(rt, alloc, trees, answers) != Some(*fault) {
+        if refusal(rt, alloc, &trees, answers) != Some(*fault) {
             return Some(place);
         }
     }
     None
-}
-
-// The same, over those of revisions 0 to 2.
-fn first_other(rt: &impl Abort, alloc: Global, table: &[Refused<'_>]) -> Option<usize> {
-    let trees = history(rt, alloc);
-    first_over(rt, alloc, &trees, table)
 }
 
 // An edit of another revision, and an answer with something else behind its edit.
@@ -132,63 +117,4 @@ fn a_session_goes_on_behind_a_failure(rt: HostRuntime) {
     let alloc = rt.alloc();
     assert!(rt; goes_on_over(&rt, alloc, &WHOLE));
     assert!(rt; goes_on_over(&rt, alloc, &SINGLE));
-}
-
-// ---- other commands
-
-// The number of what the newest revision is refused for over these answers, 0 where it isn't.
-fn number_told(rt: &impl Abort, alloc: Global, answers: &[u8]) -> u8 {
-    let bytes = told(rt, alloc, answers);
-    match open(alloc, bytes.as_slice(), &WHOLE) {
-        Ok(mut port) => number_of(port.latest()),
-        Err(_) => 0,
-    }
-}
-
-// The same of properties.
-fn props_told(rt: &impl Abort, alloc: Global, answers: &[u8]) -> u8 {
-    let bytes = told(rt, alloc, answers);
-    match open(alloc, bytes.as_slice(), &WHOLE) {
-        Ok(mut port) => number_of(port.fetch_props(RevNo::new(1))),
-        Err(_) => 0,
-    }
-}
-
-const PAST: &[u8] = b"( success ( ( ) 0: ) ) ( success ( 65536 ) ) ";
-
-const WORD: &[u8] = b"( success ( ( ) 0: ) ) ( success ( none ) ) ";
-
-const NO_LIST: &[u8] = b"( success ( ( ) 0: ) ) ( success ( 1 ) ) ";
-
-const NO_VALUE: &[u8] = b"( success ( ( ) 0: ) ) ( success ( ( ( 1:a ) ) ) ) ";
-
-const CUT: &[u8] = b"( success ( ( ) 0: ) ) ( success ( ( ( 1:a";
-
-#[test]
-fn other_answers_are_refused(rt: HostRuntime) {
-    let alloc = rt.alloc();
-    assert!(rt; number_told(&rt, alloc, PAST) == 60);
-    assert!(rt; number_told(&rt, alloc, WORD) == 60);
-    assert!(rt; props_told(&rt, alloc, NO_LIST) == 60);
-    assert!(rt; props_told(&rt, alloc, NO_VALUE) == 60);
-    assert!(rt; props_told(&rt, alloc, CUT) == 7);
-}
-
-// A port that is lent is asked as one that is held.
-fn is_over(port: &mut Port<'_>) -> bool {
-    number_of(port.latest()) == 60 && number_of(port.latest()) == 60
-}
-
-// Whether that is so over these answers.
-fn stays_over(rt: &impl Abort, alloc: Global, answers: &[u8]) -> bool {
-    let bytes = told(rt, alloc, answers);
-    match open(alloc, bytes.as_slice(), &WHOLE) {
-        Ok(mut port) => is_over(&mut port),
-        Err(_) => false,
-    }
-}
-
-#[test]
-fn a_refusal_stays(rt: HostRuntime) {
-    assert!(rt; stays_over(&rt, rt.alloc(), WORD));
 }

@@ -1,13 +1,12 @@
 //! What a server writes, taken by a client.
 
-use crate::answer_tests::fetched;
 use crate::client_sessions::{Line, Port, SINGLE, URL, WHOLE, is_said, number_of, open};
 use crate::serve_sessions::asking;
 use crate::sets::{first, is_next, makes_next, second};
 use crate::stores::log;
 use byte_streams::{CountedReader, MemOutput};
-use dump_load::ChangeSet;
-use node_base::RevNo;
+use dump_load::{Applied, ChangeSet};
+use node_base::{Props, RevNo};
 use path_tree::Tree;
 use ra_client::ClientFault;
 use ra_serve::{ClientItems, HeldRepo, serve};
@@ -50,6 +49,12 @@ pub(crate) fn served(rt: &impl Abort, alloc: Global, asked: &[u8]) -> Vec<u8> {
         Ok((out, _)) => Vec::from_slice(alloc, out.bytes()).expect(rt, "memory"),
         Err(_) => rt.abort(),
     }
+}
+
+// The changes of a revision, with their tree, and its properties, over as many of these trees as stand before it.
+fn fetched(port: &mut Port<'_>, trees: &[Tree], number: u16) -> Option<(Applied, Props)> {
+    let before = trees.get(..usize::from(number))?;
+    port.fetch(RevNo::new(number), before).ok()
 }
 
 // Whether a revision makes its tree, and comes with it.
