@@ -20,16 +20,17 @@ toy() {
 }
 
 # The stand-in for rt tells what it was called with in $work/called, and what it found in $work/seen, and builds the program
-# by copying it. In $work/fake/rattle-kept it keeps each library, with a file that is the same for all; in $work/found it
-# tells what was kept there before it proves low. Where a file $work/refuses names a crate it doesn't prove that; with a
-# file $work/forgets it keeps nothing, with $work/old it has no `rt ci NAME`, and what $work/meanwhile says is done while it
-# builds the program.
+# by copying it. In $work/fake/rattle-kept it keeps each library, once those that it stands on are kept there, with a file
+# that is the same for all; in $work/found it tells what was kept there before it proves low. Where a file $work/refuses
+# names a crate it doesn't prove that; $work/takes has the seconds that each takes; with a file $work/forgets it keeps
+# nothing, with $work/old it has no `rt ci NAME`, and what $work/meanwhile says is done while it builds the program.
 mkdir -p "$work/fake/kit/bin"
 ln -s kit/bin/rt "$work/fake/rt"
 cat >"$work/fake/kit/bin/rt" <<END
 #!/bin/sh
 called() { echo "\$*" >>"$work/called"; }
-proves() { sleep 0.3; called "ended \$1"; ! grep -qx "\$1" "$work/refuses" 2>/dev/null || { echo "rt: \$1 NOT PROVED"; exit 1; }; }
+proves() { sleep "\$(cat "$work/takes" 2>/dev/null || echo 0.3)"; called "ended \$1"; ! grep -qx "\$1" "$work/refuses" 2>/dev/null || { echo "rt: \$1 NOT PROVED"; exit 1; }; }
+waits() { for it in \$(sed -n "s/^\$1: //p" crates.txt); do [ ! -d "crates/\$it" ] || until [ -d "$work/fake/rattle-kept/proof-\$it-1" ]; do sleep 0.05; done; done; }
 keeps=', and that is kept'
 [ ! -e "$work/forgets" ] || keeps=
 crate=\$(basename "\$PWD")
@@ -40,6 +41,7 @@ version*) echo 'stand-in' ;;
     called "ci \$2 jobs=\${RT_JOBS:-}"
     [ "\$2" != low ] || ls "$work/fake/rattle-kept" 2>/dev/null | grep '^proof-' | tr '\n' ' ' >"$work/found"
     find . >"$work/seen"
+    waits "\$2"
     proves "\$2"
     kept="$work/fake/rattle-kept/proof-\$2-1"
     mkdir -p "\$kept"
@@ -51,6 +53,7 @@ version*) echo 'stand-in' ;;
     ;;
 'ci ')
     called 'ci'
+    waits svnfleet
     mkdir -p crates/svnfleet/out
     cp "$program" crates/svnfleet/out/svnfleet
     [ ! -e "$work/meanwhile" ] || . "$work/meanwhile"
