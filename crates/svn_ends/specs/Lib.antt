@@ -1,3 +1,4 @@
 pub mod Ports
 pub mod Runs
 pub mod Seats
+pub mod Shown

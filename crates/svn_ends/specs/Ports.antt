@@ -1,12 +1,16 @@
 -- What a port over a share is to its caller.
-use Rattle.std.specs.Prelude.{◌≡◌, ℕ, Bool, List, Option, Some, None, Result, take, IfErr}
+use Rattle.std.specs.Prelude.{◌≡◌, ℕ, Bool, List, Option, Some, None, Result, Ok, Err, take, IfErr}
 use Rattle.node_base.specs.Tree.{PathMap}
 use Rattle.node_base.specs.declared.refusal.Refusal.{Refusal}
 use Rattle.repo_core.specs.Repository.{Repository}
 use Rattle.ra_serve.specs.Ports.{Goes, MayRefuse, Stays}
 use Rattle.ra_serve.specs.declared.fault.PortFault.{PortFault}
+use Rattle.ra_serve.specs.declared.fault.PortFault.TheVariants.{NoSuchRevision}
+use Rattle.ra_serve.specs.Held.{port_fault}
+use Rattle.repo_store.specs.declared.fault.StoreFault.{StoreFault}
 use Rattle.store_share.specs.Chains.{trees_known}
 use Rattle.store_share.specs.Seats.{known_by, seen_by}
+use Rattle.store_share.specs.declared.rev.Rev.{Rev}
 use Rattle.store_share.specs.declared.seat.ReaderSeat.{ReaderSeat}
 use Rattle.svn_ends.specs.Seats.{Misses}
 use Rattle.svn_ends.specs.declared.port.SharePort.{SharePort}
@@ -55,6 +59,15 @@ RefusesFor old new due result =
 -- a revision is refused: the seat hasn't seen so many, or memory ran out, which the port counts
 abbrev pub RefusesUnseen : {R L S T : Type 0} {r : _} → SharePort R L S r → SharePort R L S r → ℕ → Result T PortFault → Type 0
 RefusesUnseen old new number result = IfErr result (Misses number (seen_by (seat_of new)) (refusals_of old) (refusals_of new))
+
+-- a revision is refused as unseen once the newest one was asked for
+abbrev pub AsksFirst : {R L S : Type 0} {r : _} → (S → ℕ → (ℕ → Option Rev) → ℕ → Type 0) → SharePort R L S r → SharePort R L S r → PortFault → Type 0
+AsksFirst IsNewest old new f = f ≡ NoSuchRevision → IsNewest (share_of old) (seen_by (seat_of old)) (known_by (seat_of new)) (seen_by (seat_of new))
+
+-- a port's answer is a share's: it tells the refusal that the share's is
+abbrev pub IsAnswer : (Result (Unit {0}) StoreFault → Type 0) → Result (Unit {0}) PortFault → Type 0
+IsAnswer Answers (Ok done) = Answers (Ok done)
+IsAnswer Answers (Err f) = (e : StoreFault) × Answers (Err e) × (f ≡ port_fault e)
 
 -- of the trees that it lends those below a number are what its seat knows there
 abbrev pub LendsBelow : {R L S : Type 0} {r : _} → SharePort R L S r → ℕ → Type 0

@@ -16,7 +16,7 @@ use Rattle.mirror_engines.specs.Worlds.{unknown}
 use Rattle.mirror_engines.specs.declared.work.Work.{Work}
 use Rattle.ra_client.specs.Deltas.{session_of, deltas_answered_by}
 use Rattle.ra_client.specs.Masters.{answered_by, of_client}
-use Rattle.ra_client.specs.Ports.{IsOpened}
+use Rattle.ra_client.specs.Ports.{IsOpened, IsUnopened}
 use Rattle.ra_client.specs.declared.port.ClientPort.{ClientPort}
 use Rattle.ra_client.specs.declared.delta_port.DeltaPort.{DeltaPort}
 use Rattle.ra_client.specs.declared.fault.ClientFault.{ClientFault}
@@ -34,18 +34,18 @@ pub data RunsOver {D O : Type 0} {G : Ghosts D} (contents : O → Option (List �
   Unopened : (e : Refusal) → result ≡ Err e → (e ≡ refusal.OutOfMemory) ⊎ ((f : ClientFault) × TellsMaster f e) → new ≡ old → now ≡ before → RunsOver contents failures IsRun old new before now result
   Ran : Serves unknown tt IsRun old new (contents before) (contents now) (Rose (failures before) (failures now)) result → RunsOver contents failures IsRun old new before now result
 
--- the same where it is known how the session's port is opened: what the master answered in the run is what this port's calls answered
-pub data RunsBy {P D O : Type 0} {G : Ghosts D} (Opened : P → Type 0) (answered : P → P → List Exchange → Type 0) (contents : O → Option (List ℕ)) (failures : O → ℕ) (IsRun : List Spoken → Result (Unit {0}) SyncFault → Type 0) (old new : RepoStore D G) (before now : O) (result : Result (Unit {0}) Refusal) : Type 0 where
-  Unmet : (e : Refusal) → result ≡ Err e → (e ≡ refusal.OutOfMemory) ⊎ ((f : ClientFault) × TellsMaster f e) → new ≡ old → now ≡ before → RunsBy Opened answered contents failures IsRun old new before now result
-  Met : (port : P) → Opened port → Serves answered port IsRun old new (contents before) (contents now) (Rose (failures before) (failures now)) result → RunsBy Opened answered contents failures IsRun old new before now result
+-- the same where it is known how the session's port is opened or isn't: what the master answered in the run is what this port's calls answered
+pub data RunsBy {P D O : Type 0} {G : Ghosts D} (Opened : P → Type 0) (Ended : ClientFault → Type 0) (answered : P → P → List Exchange → Type 0) (contents : O → Option (List ℕ)) (failures : O → ℕ) (IsRun : List Spoken → Result (Unit {0}) SyncFault → Type 0) (old new : RepoStore D G) (before now : O) (result : Result (Unit {0}) Refusal) : Type 0 where
+  Unmet : (e : Refusal) (f : ClientFault) → result ≡ Err e → Ended f → (e ≡ refusal.OutOfMemory) ⊎ TellsMaster f e → new ≡ old → now ≡ before → RunsBy Opened Ended answered contents failures IsRun old new before now result
+  Met : (port : P) → Opened port → Serves answered port IsRun old new (contents before) (contents now) (Rose (failures before) (failures now)) result → RunsBy Opened Ended answered contents failures IsRun old new before now result
 
 -- over a session of that input and output
 abbrev pub RunsAt : {R C D O : Type 0} {G : Ghosts D} → InputGhosts R → OutputGhosts C → List ℕ → R → C → (O → Option (List ℕ)) → (O → ℕ) → (List Spoken → Result (Unit {0}) SyncFault → Type 0) → RepoStore D G → RepoStore D G → O → O → Result (Unit {0}) Refusal → Type 0
-RunsAt {R} {C} {D} {O} {G} g h url input commands = RunsBy {P = ClientPort R C g h} (λ port. IsOpened url input commands port) answered_by
+RunsAt {R} {C} {D} {O} {G} g h url input commands = RunsBy {P = ClientPort R C g h} (λ port. IsOpened url input commands port) (IsUnopened g h url input commands) answered_by
 
 -- and over one whose server sends texts as differences
 abbrev pub RunsDeltasAt : {R C D O : Type 0} {G : Ghosts D} → InputGhosts R → OutputGhosts C → List ℕ → R → C → (O → Option (List ℕ)) → (O → ℕ) → (List Spoken → Result (Unit {0}) SyncFault → Type 0) → RepoStore D G → RepoStore D G → O → O → Result (Unit {0}) Refusal → Type 0
-RunsDeltasAt {R} {C} {D} {O} {G} g h url input commands = RunsBy {P = DeltaPort R C g h} (λ port. IsOpened url input commands (session_of port)) deltas_answered_by
+RunsDeltasAt {R} {C} {D} {O} {G} g h url input commands = RunsBy {P = DeltaPort R C g h} (λ port. IsOpened url input commands (session_of port)) (IsUnopened g h url input commands) deltas_answered_by
 
 -- the same over a connection, which may not come about
 pub data RunsFrom {D O : Type 0} {G : Ghosts D} (contents : O → Option (List ℕ)) (failures : O → ℕ) (IsRun : List Spoken → Result (Unit {0}) SyncFault → Type 0) (old new : RepoStore D G) (before now : O) (result : Result (Unit {0}) Refusal) : Type 0 where

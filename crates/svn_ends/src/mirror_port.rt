@@ -1,7 +1,9 @@
 //! The port over a mirror's share.
 
 ghost use Rattle.std.specs.Prelude.{◌≡◌, true, IfOk};
-ghost use Rattle.svn_ends.specs.Ports.{takes_none};
+ghost use Rattle.store_share.specs.Seats.{known_by, seen_by};
+ghost use Rattle.svn_ends.specs.Ports.{seat_of, takes_none};
+ghost use Rattle.svn_ends.specs.Shown.{MirrorShows};
 
 use crate::port::SharePort;
 use fleet_disk::Disk;
@@ -20,7 +22,8 @@ pub fn over_mirror<'a, R: Wait, L: MirrorName, D: Disk>(
     alloc: Global,
     share: &'a MirrorShare<L, D>,
 ) -> Result<MirrorSharePort<'a, R, L, D>, AllocError>
-    ensures { IfOk result (λ p. takes_none p ≡ true) }
+    ensures mirror { IfOk result (λ p. takes_none p ≡ true) }
+    ensures shown { IfOk result (λ p. MirrorShows share.now (known_by (seat_of p)) (seen_by (seat_of p))) }
 {
     SharePort::new(rt, alloc, share, true)
 }

@@ -1,7 +1,7 @@
 //! What a seat reads of a share.
 
-ghost use Rattle.std.specs.Prelude.{◌≡◌, ◌≤◌, ◌<◌, true, false, length, Some, OnOk};
-ghost use Rattle.store_share.specs.Seats.{seen_by};
+ghost use Rattle.std.specs.Prelude.{◌≡◌, ◌≤◌, ◌<◌, true, false, length, Some, IfOk, OnOk};
+ghost use Rattle.store_share.specs.Seats.{known_by, seen_by};
 ghost use Rattle.svn_ends.specs.Seats.{AreRead, Keeps, GivesTree, GivesSet, ReplaysSet};
 
 use crate::shares::ServedShare;
@@ -23,6 +23,7 @@ pub(crate) fn sees<R: Wait, L: RowName, S: ServedShare<L>>(
 ) -> bool
     ensures there { result ≡ true → number ≤ seen_by seat.new }
     ensures above { result ≡ false → seen_by seat.new < number }
+    ensures asked { result ≡ false → S.is_newest share.now (seen_by seat.old) (known_by seat.new) (seen_by seat.new) }
     ensures keeps { Keeps seat.old seat.new }
 {
     if number <= seat.seen() {
@@ -100,6 +101,7 @@ pub(crate) fn seen_replay<R: Wait, L: RowName, S: ServedShare<L>>(
 ) -> Result<Replay, StoreFault>
     requires { number ≤ seen_by seat.old }
     ensures set { ReplaysSet seat.new number result }
+    ensures props { IfOk result (λ p. S.has_props share.now number p.props) }
     ensures keeps { Keeps seat.old seat.new }
     ensures seen { seen_by seat.new ≡ seen_by seat.old }
 {

@@ -1,9 +1,10 @@
 //! A share as its sessions have it.
 ghost use Rattle.std.specs.Prelude.{◌≡◌, ◌≤◌, ◌⊎◌, ℕ, IfOk, IfErr, IfNone};
+ghost use Rattle.std.specs.Option.{option_copied};
 ghost use Rattle.gate_log.specs.declared.fault.LogFault.TheVariants as log;
 ghost use Rattle.repo_core.specs.declared.fault.RepoFault.TheVariants as core;
 ghost use Rattle.repo_store.specs.declared.fault.StoreFault.TheVariants as fault;
-ghost use Rattle.store_share.specs.Seats.{seen_by, KeepsSeen, KeepsFound, ReadsAs};
+ghost use Rattle.store_share.specs.Seats.{known_by, seen_by, KeepsSeen, KeepsFound, ReadsAs};
 
 use fleet_disk::Disk;
 use gate_log::LogFault;
@@ -19,8 +20,12 @@ use uuid::Uuid;
 /// A share that is served: a repository's, or a mirror's. Of what others change in it meanwhile each call's own clauses
 /// speak.
 pub trait ServedShare<L: RowName> {
-    ghost use Rattle.std.specs.Prelude.{ℕ, List};
+    ghost use Rattle.std.specs.Prelude.{ℕ, List, Option, Result};
+    ghost use Rattle.node_base.specs.Path.{Name};
     ghost use Rattle.node_base.specs.Props.{PropMap};
+    ghost use Rattle.repo_core.specs.declared.expected.Expected.{Expected as ExpectedOf};
+    ghost use Rattle.repo_store.specs.declared.fault.StoreFault.{StoreFault as FaultOf};
+    ghost use Rattle.store_share.specs.declared.rev.Rev.{Rev as RevOf};
 
     /// A book of the share is of the repository with that identity.
     ghost has_identity: { Self → List ℕ → Type 0 };
@@ -28,18 +33,32 @@ pub trait ServedShare<L: RowName> {
     /// A book of the share has these properties of the revision with that number.
     ghost has_props: { Self → ℕ → PropMap → Type 0 };
 
+    /// A book of the share shows nothing of that number.
+    ghost is_above: { Self → ℕ → Type 0 };
+
+    /// This is known of what a book of the share shows, up to its head.
+    ghost shows: { Self → (ℕ → Option RevOf) → ℕ → Type 0 };
+
+    /// The newest of what was seen and of what a book of the share shows, of which this is known.
+    ghost is_newest: { Self → ℕ → (ℕ → Option RevOf) → ℕ → Type 0 };
+
+    /// What a book of the share answers to a change of that property.
+    ghost changes_prop: { Self → ℕ → Name → Option (List ℕ) → ExpectedOf → Result (Unit {0}) FaultOf → Type 0 };
+
     /// The repository's identity.
     fn identity<R: Wait>(&self, rt: &R) -> Uuid
         ensures { has_identity self.now result };
 
     /// The seat of a reader, who has seen what is shown now. Only want of memory (70) refuses it.
-    fn enter_reader<R: Wait>(&self, rt: &R, alloc: Global) -> Result<ReaderSeat<L>, AllocError>;
+    fn enter_reader<R: Wait>(&self, rt: &R, alloc: Global) -> Result<ReaderSeat<L>, AllocError>
+        ensures { IfOk result (λ s. shows self.now (known_by s) (seen_by s)) };
 
     /// The newest revision, which the reader has seen then. It never falls for a reader.
     fn latest<R: Wait>(&self, rt: &R, reader: &mut ReaderSeat<L>) -> RevNo
         ensures most { seen_by reader.old ≤ result }
         ensures seen { seen_by reader.new ≡ result }
-        ensures kept { KeepsSeen reader.old reader.new };
+        ensures kept { KeepsSeen reader.old reader.new }
+        ensures newest { is_newest self.now (seen_by reader.old) (known_by reader.new) result };
 
     /// The revision of that number, where the reader has seen it or its cell shows it. It waits for nobody, and takes
     /// no memory. What the reader has seen it reads for good.
@@ -52,7 +71,8 @@ pub trait ServedShare<L: RowName> {
     /// The properties that a revision has now. NoSuchRevision (21) above the head, OutOfMemory (70).
     fn fetch_props<R: Wait>(&self, rt: &R, number: RevNo) -> Result<Props, StoreFault>
         ensures props { IfOk result (has_props self.now number) }
-        ensures refused { IfErr result (λ e. (e ≡ fault.Repo core.NoSuchRevision) ⊎ (e ≡ fault.Log log.OutOfMemory)) };
+        ensures refused { IfErr result (λ e. (e ≡ fault.Repo core.NoSuchRevision) ⊎ (e ≡ fault.Log log.OutOfMemory)) }
+        ensures above { IfErr result (λ e. e ≡ fault.Repo core.NoSuchRevision → is_above self.now number) };
 
     /// Puts a value at the name of a property of a revision, or takes it away, where the present value is as expected.
     /// A mirror's share refuses each (32), since its jobs alone change it.
@@ -64,15 +84,25 @@ pub trait ServedShare<L: RowName> {
         name: &PropName,
         value: Option<&[u8]>,
         expected: &Expected,
-    ) -> Result<(), StoreFault>;
+    ) -> Result<(), StoreFault>
+        ensures { changes_prop self.now number name.now (option_copied value.entry) expected.now result };
 }
 
 impl<L: RowName, D: Disk> ServedShare<L> for MasterShare<L, D> {
-    ghost use Rattle.store_share.specs.Locked.{HasIdentity, HasProps};
+    ghost use Rattle.store_share.specs.Locked.{HasIdentity, HasProps, IsAbove, IsPropOf};
+    ghost use Rattle.svn_ends.specs.Shown.{MasterShows, MasterNewest};
 
     ghost has_identity = { λ share identity. HasIdentity share identity };
 
     ghost has_props = { λ share number props. HasProps share number props };
+
+    ghost is_above = { λ share number. IsAbove share number };
+
+    ghost shows = { λ share known last. MasterShows share known last };
+
+    ghost is_newest = { λ share seen known newest. MasterNewest share seen known newest };
+
+    ghost changes_prop = { λ share number name value expected result. IsPropOf share number name value expected result };
 
     fn identity<R: Wait>(&self, rt: &R) -> Uuid {
         MasterShare::identity(self, rt)
@@ -108,11 +138,23 @@ impl<L: RowName, D: Disk> ServedShare<L> for MasterShare<L, D> {
 }
 
 impl<L: MirrorName, D: Disk> ServedShare<L> for MirrorShare<L, D> {
-    ghost use Rattle.mirror_share.specs.Locked.{HasIdentity, HasProps};
+    ghost use Rattle.std.specs.Prelude.{◌≡◌, Err};
+    ghost use Rattle.gate_log.specs.declared.fault.LogFault.TheVariants.{Failed};
+    ghost use Rattle.mirror_share.specs.Locked.{HasIdentity, HasProps, IsAbove};
+    ghost use Rattle.repo_store.specs.declared.fault.StoreFault.TheVariants.{Log};
+    ghost use Rattle.svn_ends.specs.Shown.{MirrorShows, MirrorNewest};
 
     ghost has_identity = { λ share identity. HasIdentity share identity };
 
     ghost has_props = { λ share number props. HasProps share number props };
+
+    ghost is_above = { λ share number. IsAbove share number };
+
+    ghost shows = { λ share known last. MirrorShows share known last };
+
+    ghost is_newest = { λ share seen known newest. MirrorNewest share seen known newest };
+
+    ghost changes_prop = { λ share number name value expected result. result ≡ Err (Log Failed) };
 
     fn identity<R: Wait>(&self, rt: &R) -> Uuid {
         MirrorShare::identity(self, rt)

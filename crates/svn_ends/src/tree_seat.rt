@@ -1,7 +1,7 @@
 //! A session's seat, with the trees that were read from it.
 
-ghost use Rattle.std.specs.Prelude.{◌≡◌, ◌≤◌, ◌<◌, true, false, length, OnOk};
-ghost use Rattle.store_share.specs.Seats.{seen_by};
+ghost use Rattle.std.specs.Prelude.{◌≡◌, ◌≤◌, ◌<◌, true, false, length, IfOk, OnOk};
+ghost use Rattle.store_share.specs.Seats.{known_by, seen_by};
 ghost use Rattle.svn_ends.specs.Seats.{AreRead, Keeps, AreReadBelow, GivesTree, ReplaysSet};
 
 use crate::seen::{read_trees, seen_replay, seen_tree, sees};
@@ -40,6 +40,7 @@ impl<L: RowName> TreeSeat<L> {
         ensures most { seen_by self.old.seat ≤ result }
         ensures seen { seen_by self.new.seat ≡ result }
         ensures keeps { Keeps self.old.seat self.new.seat }
+        ensures newest { S.is_newest share.now (seen_by self.old.seat) (known_by self.new.seat) result }
     {
         share.latest(rt, &mut self.seat)
     }
@@ -53,6 +54,8 @@ impl<L: RowName> TreeSeat<L> {
     ) -> bool
         ensures there { result ≡ true → number ≤ seen_by self.new.seat }
         ensures above { result ≡ false → seen_by self.new.seat < number }
+        ensures asked { result ≡ false → S.is_newest share.now (seen_by self.old.seat) (known_by self.new.seat)
+            (seen_by self.new.seat) }
         ensures keeps { Keeps self.old.seat self.new.seat }
     {
         sees(rt, share, &mut self.seat, number)
@@ -83,6 +86,7 @@ impl<L: RowName> TreeSeat<L> {
     ) -> Result<Replay, StoreFault>
         requires { number ≤ seen_by self.old.seat }
         ensures set { ReplaysSet self.new.seat number result }
+        ensures props { IfOk result (λ p. S.has_props share.now number p.props) }
         ensures trees { OnOk result (AreReadBelow self.new.seat self.new.trees.items number) }
         ensures enough { OnOk result (number ≤ length self.new.trees.items) }
         ensures keeps { Keeps self.old.seat self.new.seat }

@@ -8,7 +8,7 @@ pub returns-in_default-clause-ran : goal.returns-in_default-clause-ran
 returns-in_default-clause-ran g c = Reached (Unopened refusal.OutOfMemory refl (inl refl) refl refl)
 
 pub returns-clause-ran : goal.returns-clause-ran
-returns-clause-ran g c = Reached (over _ _ _ _ _ _ _ _ _ _ c.run_work_over.ensures.ran)
+returns-clause-ran g c = Reached (over _ _ _ _ _ _ _ _ _ _ _ c.run_work_over.ensures.ran)
 
 pub returns-then-deltas-clause-ran : goal.returns-then-deltas-clause-ran
-returns-then-deltas-clause-ran g c = Reached (over _ _ _ _ _ _ _ _ _ _ c.run_deltas_over.ensures.ran)
+returns-then-deltas-clause-ran g c = Reached (over _ _ _ _ _ _ _ _ _ _ _ c.run_deltas_over.ensures.ran)
