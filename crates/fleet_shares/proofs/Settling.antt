@@ -15,7 +15,7 @@ use Rattle.store_share.specs.declared.book.MasterBook.{MasterBook}
 use Rattle.store_share.specs.declared.name.RowName.{Ghosts as RowGhosts}
 use Rattle.store_share.specs.declared.opened.OpenedStore.{OpenedStore}
 use Rattle.store_share.specs.declared.seat.ReaderSeat.{ReaderSeat}
-use Rattle.fleet_shares.specs.Agreed.{Adds, BringsUp, IsAddedTo, IsFront, IsOther}
+use Rattle.fleet_shares.specs.Agreed.{Adds, BringsUp, IsFront}
 use Rattle.fleet_shares.specs.Closing.{brings_at, AreBroughtIn, AreBroughtSince, AreReaders, ComesOut, ComesOutNow, HasStayed, HaveSeenAll, IsBroughtBy, IsBroughtIn, IsBroughtSince, IsJudged, IsLost, IsReadBy, IsSettled, IsUnlike}
 use Rattle.fleet_shares.specs.Opening.{stored_in, IsOpenedFrom}
 use Rattle.fleet_shares.specs.Ran.{named_by}
@@ -47,29 +47,18 @@ stays_on old new y head shown is at within known kept x all = record {
 pub stuck_now : {L D : Type 0} {r : _} {g : _} (book : MasterBook L D r g) (head : ℕ) → is_stuck book ≡ true → IsLost r head (store_of book)
 stuck_now book head is = inl (book, refl, is)
 
--- whether a store has what it had and what it has besides is told
-pub brought_by : {L D : Type 0} {r : _} {g : _} (seat : ReaderSeat L r) (above : ℕ) (old now : RepoStore D g) (x y m : Repository) (stayed added : Bool) → above ≡ seen_by seat → x ≡ repository_of now → now ≡ old → y ≡ m → stayed ≡ true → HasStayed stayed seat old
-    → IsAddedTo added above x y → IsBroughtBy added seat old m
-brought_by {L} {D} {r} {g} seat above old now x y m stayed added at is same whose up h k =
-    by added (subst (λ w. IsAddedTo added above w m) (is ∙ ap (λ (s : RepoStore D g). repository_of s) same) (subst (λ w. IsAddedTo added above x w) whose k))
-  where
-    by : (b : Bool) → IsAddedTo b above (repository_of old) m → IsBroughtBy b seat old m
-    by true adds = λ z all. (subst (λ b. HasStayed b seat old) up h z all, subst (λ i. Adds i (repository_of old) m) (at ∙ all.0) adds)
-    by false other = inr (subst (λ i. IsOther i (repository_of old) m) at other)
-
-pub not_brought_by : {L D : Type 0} {r : _} {g : _} (seat : ReaderSeat L r) (old : RepoStore D g) (m : Repository) (stayed : Bool) → stayed ≡ false → HasStayed stayed seat old → IsBroughtBy false seat old m
-not_brought_by seat old m stayed lost h = inl (subst (λ b. HasStayed b seat old) lost h)
-
-pub settled_by : {L D : Type 0} {r : _} {g : _} (up : Bool) (opened : Option (ReaderSeat L r)) (seat : ReaderSeat L r) (store now old : RepoStore D g) (m : Repository) → opened ≡ Some seat → store ≡ now → now ≡ old → IsBroughtBy up seat old m
-    → IsSettled up (Some store) opened m
-settled_by {L = L} {D = D} {r = r} {g = g} up opened seat store now old m is e f h =
-    subst (λ (o : Option (ReaderSeat L r)). IsSettled up (Some store) o m) (sym is) (subst (λ (s : RepoStore D g). IsBroughtBy up seat s m) (sym (e ∙ f)) h)
+-- how a mirror's store was settled
+pub settled_by : {L D : Type 0} {r : _} {g : _} (up : Bool) (opened : Option (ReaderSeat L r)) (seat : ReaderSeat L r) (had : ℕ) (store now old : RepoStore D g) (m : Repository) → opened ≡ Some seat → store ≡ now → now ≡ old → IsBroughtBy up seat had old m
+    → IsSettled up (Some store) opened had m
+settled_by {L = L} {D = D} {r = r} {g = g} up opened seat had store now old m is e f h =
+    subst (λ (o : Option (ReaderSeat L r)). IsSettled up (Some store) o had m) (sym is) (subst (λ (s : RepoStore D g). IsBroughtBy up seat had s m) (sym (e ∙ f)) h)
 
 -- a mirror that has what it had, and what its master has besides
-brings_up : (old_master old_mirror master mirror : Repository) → IsFront old_master master → IsFront old_mirror mirror → Adds (head_of old_mirror.revisions) mirror master → BringsUp old_master old_mirror master mirror
-brings_up old_master old_mirror master mirror first second adds = record {
+brings_up : (old_master old_mirror master mirror : Repository) → IsFront old_master master → IsFront old_mirror mirror → head_of old_master.revisions ≤ head_of mirror.revisions → Adds (head_of old_mirror.revisions) mirror master → BringsUp old_master old_mirror master mirror
+brings_up old_master old_mirror master mirror first second enough adds = record {
   master_stays = first;
   mirror_stays = second;
+  all = enough;
   more = adds.more;
   whole = λ front. adds.whole (record {
     within = omega (arith, front.within, first.within);
@@ -82,23 +71,25 @@ both_up true up e = e
 both_up false up e = absurd (true≢false (sym e))
 
 -- of a slot
-brought_since : {M L D : Type 0} {m : _} {r : _} {g : _} (stays up both : Bool) (theirs : ReaderSeat M m) (ours : Option (ReaderSeat L r)) (first master : RepoStore D g) (store : Option (RepoStore D g))
-    → both ≡ (if stays then up else false) → master ≡ first → HasStayed stays theirs first → IsSettled up store ours (repository_of first) → IsBroughtSince both theirs ours master store
-brought_since stays up both theirs ours first master None is same h k = tt
-brought_since stays up both theirs None first master (Some s) is same h k = λ t. k (both_up stays up (sym is ∙ t))
-brought_since {D = D} {g = g} stays up both theirs (Some o) first master (Some s) is same h k =
-    subst (λ b. IsBroughtSince b theirs (Some o) master (Some s)) (sym is) (subst (λ (y : RepoStore D g). IsBroughtSince (if stays then up else false) theirs (Some o) y (Some s)) (sym same) (by stays up h k))
+brought_since : {M L D : Type 0} {m : _} {r : _} {g : _} (stays up both : Bool) (theirs : ReaderSeat M m) (ours : Option (ReaderSeat L r)) (had : ℕ) (first master : RepoStore D g) (store : Option (RepoStore D g))
+    → both ≡ (if stays then up else false) → had ≡ seen_by theirs → master ≡ first → HasStayed stays theirs first → IsSettled up store ours had (repository_of first) → IsBroughtSince both theirs ours master store
+brought_since stays up both theirs ours had first master None is at same h k = tt
+brought_since stays up both theirs None had first master (Some s) is at same h k = λ t. k (both_up stays up (sym is ∙ t))
+brought_since {D = D} {g = g} stays up both theirs (Some o) had first master (Some s) is at same h k =
+    subst (λ b. IsBroughtSince b theirs (Some o) master (Some s)) (sym is)
+    (subst (λ (y : RepoStore D g). IsBroughtSince (if stays then up else false) theirs (Some o) y (Some s)) (sym same) (by stays up h (subst (λ n. IsBroughtBy up o n s (repository_of first)) at k)))
   where
-    by : (b c : Bool) → HasStayed b theirs first → IsBroughtBy c o s (repository_of first) → IsBroughtSince (if b then c else false) theirs (Some o) first (Some s)
+    by : (b c : Bool) → HasStayed b theirs first → IsBroughtBy c o (seen_by theirs) s (repository_of first) → IsBroughtSince (if b then c else false) theirs (Some o) first (Some s)
     by false c lost k = inl lost
     by true false stayed unlike = inr unlike
-    by true true stayed brought = λ x z seen all. let both_are = brought z all in brings_up x z (repository_of first) (repository_of s) (stayed x seen) both_are.0 both_are.1
+    by true true stayed brought = λ x z seen all. let both_are = brought z all in
+        brings_up x z (repository_of first) (repository_of s) (stayed x seen) both_are.0 (subst (λ n. n ≤ head_of (revisions_of s)) seen.0 both_are.1) both_are.2
 
 -- where the master's store was another value of the same
-pub brought_after : {M L D : Type 0} {m : _} {r : _} {g : _} (stays up both : Bool) (theirs : ReaderSeat M m) (ours : Option (ReaderSeat L r)) (first mid master : RepoStore D g) (store : Option (RepoStore D g))
-    → both ≡ (if stays then up else false) → mid ≡ first → master ≡ first → HasStayed stays theirs first → IsSettled up store ours (repository_of mid) → IsBroughtSince both theirs ours master store
-brought_after {D = D} {g = g} stays up both theirs ours first mid master store is at same h k =
-    brought_since stays up both theirs ours first master store is same h (subst (λ (x : RepoStore D g). IsSettled up store ours (repository_of x)) at k)
+pub brought_after : {M L D : Type 0} {m : _} {r : _} {g : _} (stays up both : Bool) (theirs : ReaderSeat M m) (ours : Option (ReaderSeat L r)) (had : ℕ) (first mid master : RepoStore D g) (store : Option (RepoStore D g))
+    → both ≡ (if stays then up else false) → had ≡ seen_by theirs → mid ≡ first → master ≡ first → HasStayed stays theirs first → IsSettled up store ours had (repository_of mid) → IsBroughtSince both theirs ours master store
+brought_after {D = D} {g = g} stays up both theirs ours had first mid master store is seen at same h k =
+    brought_since stays up both theirs ours had first master store is seen same h (subst (λ (x : RepoStore D g). IsSettled up store ours had (repository_of x)) at k)
 
 -- by how it was opened
 brought_in : {M L D : Type 0} {m : _} {r : _} {g : _} (up : Bool) (theirs : ReaderSeat M m) (ours : Option (ReaderSeat L r)) (first : OpenedStore D g) (opened : Option (OpenedMirror D g)) (master : RepoStore D g) (store : Option (RepoStore D g))

@@ -36,9 +36,10 @@ IsAddedTo true above mirror master = Adds above mirror master
 IsAddedTo false above mirror master = IsOther above mirror master
 
 -- a mirror was brought up to a master, of which both were as the first two and are as the last two: each has what it had; what the
--- mirror has besides is the master's; and where all that it had was the master's, all that it has is
+-- mirror has besides is the master's, and it has no fewer revisions than the master had; and where all that it had was the master's, all that it has is
 pub record BringsUp (old_master old_mirror master mirror : Repository) : Type 0 where
   pub master_stays : IsFront old_master master
   pub mirror_stays : IsFront old_mirror mirror
+  pub all : head_of old_master.revisions ≤ head_of mirror.revisions
   pub more : (n : ℕ) → head_of old_mirror.revisions < n → n ≤ head_of mirror.revisions → HaveSet mirror master n
   pub whole : IsFront old_mirror old_master → IsFront mirror master

@@ -1,5 +1,5 @@
 -- What comes of a fleet's stores.
-use Rattle.std.specs.Prelude.{◌≡◌, ◌⊎◌, ◌<◌, ℕ, Bool, true, false, List, Option, Some, None, Result, Ok}
+use Rattle.std.specs.Prelude.{◌≡◌, ◌⊎◌, ◌<◌, ◌≤◌, ℕ, Bool, true, false, List, Option, Some, None, Result, Ok}
 use Rattle.fleet_disk.specs.declared.disk.Disk.{Ghosts}
 use Rattle.mirror_share.specs.Names.{opened_in}
 use Rattle.mirror_share.specs.Seen.{HasSeenAll}
@@ -32,21 +32,22 @@ abbrev pub HasStayed : {L D : Type 0} {r : _} {g : _} → Bool → ReaderSeat L 
 HasStayed true seat store = (x : Repository) → HasSeenAll seat x → IsFront x (repository_of store)
 HasStayed {r = r} false seat store = IsLost r (seen_by seat) store
 
--- whether a store was brought up to a master: it has what a reader saw when it was opened, and what it has besides is the master's
-abbrev pub IsBroughtBy : {L D : Type 0} {r : _} {g : _} → Bool → ReaderSeat L r → RepoStore D g → Repository → Type 0
-IsBroughtBy true seat store master = (x : Repository) → HasSeenAll seat x → IsFront x (repository_of store) × Adds (head_of x.revisions) (repository_of store) master
-IsBroughtBy {r = r} false seat store master = IsLost r (seen_by seat) store ⊎ IsOther (seen_by seat) (repository_of store) master
+-- whether a store was brought up to a master, which had such a head: it has what a reader saw when it was opened, no fewer revisions than
+-- the master had, and what it has besides is the master's
+abbrev pub IsBroughtBy : {L D : Type 0} {r : _} {g : _} → Bool → ReaderSeat L r → ℕ → RepoStore D g → Repository → Type 0
+IsBroughtBy true seat had store master = (x : Repository) → HasSeenAll seat x → IsFront x (repository_of store) × (had ≤ head_of (revisions_of store)) × Adds (head_of x.revisions) (repository_of store) master
+IsBroughtBy {r = r} false seat had store master = IsLost r (seen_by seat) store ⊎ (head_of (revisions_of store) < had) ⊎ IsOther (seen_by seat) (repository_of store) master
 
 -- the same of a slot
-abbrev pub IsSettled : {L D : Type 0} {r : _} {g : _} → Bool → Option (RepoStore D g) → Option (ReaderSeat L r) → Repository → Type 0
-IsSettled up None opened master = Unit {0}
-IsSettled up (Some s) None master = up ≡ true → ⊥
-IsSettled up (Some s) (Some seat) master = IsBroughtBy up seat s master
+abbrev pub IsSettled : {L D : Type 0} {r : _} {g : _} → Bool → Option (RepoStore D g) → Option (ReaderSeat L r) → ℕ → Repository → Type 0
+IsSettled up None opened had master = Unit {0}
+IsSettled up (Some s) None had master = up ≡ true → ⊥
+IsSettled up (Some s) (Some seat) had master = IsBroughtBy up seat had s master
 
--- why a mirror wasn't brought up to its master, of which both had such heads: the one or the other lost what it had, or the mirror has a
--- revision besides that isn't the master's
+-- why a mirror wasn't brought up to its master, of which both had such heads: the one or the other lost what it had, or the mirror has
+-- fewer revisions than the master had, or one besides that isn't the master's
 abbrev pub IsUnlike : {M L D : Type 0} {g : _} → RowGhosts M → RowGhosts L → ℕ → ℕ → RepoStore D g → RepoStore D g → Type 0
-IsUnlike m r master_had mirror_had master mirror = IsLost m master_had master ⊎ IsLost r mirror_had mirror ⊎ IsOther mirror_had (repository_of mirror) (repository_of master)
+IsUnlike m r master_had mirror_had master mirror = IsLost m master_had master ⊎ IsLost r mirror_had mirror ⊎ (head_of (revisions_of mirror) < master_had) ⊎ IsOther mirror_had (repository_of mirror) (repository_of master)
 
 -- whether a slot's mirror was brought up to the master since readers of both saw all
 abbrev pub IsBroughtSince : {M L D : Type 0} {m : _} {r : _} {g : _} → Bool → ReaderSeat M m → Option (ReaderSeat L r) → RepoStore D g → Option (RepoStore D g) → Type 0

@@ -13,15 +13,17 @@ use node_base::RevNo;
 use repo_store::RepoStore;
 use store_share::{MasterBook, ReaderSeat, RowName};
 
-/// The store of a mirror that nobody shares any more, and whether it has been brought up to the master: it has the
-/// revisions that the reader saw when it was opened, and each one behind them is the master's.
+/// The store of a mirror that nobody shares any more, and whether it has been brought up to the master, whose newest
+/// revision was that one: it has the revisions that the reader saw when it was opened, no fewer than the master had, and
+/// each one behind them is the master's.
 pub(crate) fn settled<M: RowName, L: MirrorName, D: Disk>(
     master: &MasterBook<M, D>,
+    had: RevNo,
     share: Option<MirrorShare<L, D>>,
     opened: Option<ReaderSeat<L>>,
 ) -> (Option<RepoStore<D>>, bool)
     ensures some { is_some result.0 ≡ is_some share }
-    ensures settled { IsSettled result.1 result.0 opened (repository_of (store_of master.now)) }
+    ensures settled { IsSettled result.1 result.0 opened had (repository_of (store_of master.now)) }
 {
     let Some(share) = share else {
         return (None, false);
@@ -30,24 +32,29 @@ pub(crate) fn settled<M: RowName, L: MirrorName, D: Disk>(
     let Some(opened) = opened else {
         return (Some(book.into_store()), false);
     };
-    let is_brought = is_brought(master, &mut book, opened);
+    let is_brought = is_brought(master, had, &mut book, opened);
     (Some(book.into_store()), is_brought)
 }
 
 // The same of its book.
 fn is_brought<M: RowName, L: RowName, D: Disk>(
     master: &MasterBook<M, D>,
+    had: RevNo,
     book: &mut MasterBook<L, D>,
     opened: ReaderSeat<L>,
 ) -> bool
     ensures book { store_of book.new ≡ store_of book.old }
-    ensures brought { IsBroughtBy result opened (store_of book.old) (repository_of (store_of master.now)) }
+    ensures brought { IsBroughtBy result opened had (store_of book.old) (repository_of (store_of master.now)) }
 {
     let above = opened.seen();
-    if stays(book, opened) {
-        return adds(book.repo(), master.repo(), above);
+    if !stays(book, opened) {
+        return false;
     }
-    false
+    let mirror = book.repo();
+    if mirror.head() < had {
+        return false;
+    }
+    adds(mirror, master.repo(), above)
 }
 
 /// Whether the revisions that a reader saw when a store was opened are there.

@@ -30,12 +30,13 @@ use store_share::RowName;
 /// Brings each mirror up to the master by an order of its own, by that many workers, each a thread, and answers each in
 /// its place: the newest revision of its store as it comes back, or why its job was refused. The mirror of a place is the
 /// store of the slot with its number; where `refusals` has a refusal in a place, that is its answer. Failed (32) where its
-/// job ended well and its store has a revision besides that isn't the master's. The job of a mirror for which no worker is
-/// left is run here. The stores come back. Only want of memory (70), that of a thread among it, refuses the whole, before
-/// any order is run.
+/// job ended well and its store has a revision besides that isn't the master's, or fewer than the master was given with.
+/// The job of a mirror for which no worker is left is run here. The stores come back. Only want of memory (70), that of a
+/// thread among it, refuses the whole, before any order is run.
 ///
 /// Each mirror that is answered with a number has what it had, and besides revisions of the master's as it comes back, up
-/// to that number; where all that it had was the master's, all that it has is.
+/// to that number, which is no less than the newest that the master was given with; where all that it had was the
+/// master's, all that it has is.
 pub fn run_fleet<
     R: Threads + Wait + Clone + Send + Drop + 'static,
     D: Disk + Drop + Send + 'static,

@@ -154,11 +154,12 @@ impl<
             fourth,
         } = self;
         let mut master = master.close();
+        let had = readers.master.seen();
         let stays = stays(&mut master, readers.master);
-        let (first, first_up) = settled(&master, first, readers.first);
-        let (second, second_up) = settled(&master, second, readers.second);
-        let (third, third_up) = settled(&master, third, readers.third);
-        let (fourth, fourth_up) = settled(&master, fourth, readers.fourth);
+        let (first, first_up) = settled(&master, had, first, readers.first);
+        let (second, second_up) = settled(&master, had, second, readers.second);
+        let (third, third_up) = settled(&master, had, third, readers.third);
+        let (fourth, fourth_up) = settled(&master, had, fourth, readers.fourth);
         (
             FleetStores {
                 master: master.into_store(),
