@@ -6,14 +6,13 @@ use Rattle.std.specs.Io.KnownBytes.{Appends, Keeps as HandedOn}
 use Rattle.std.proofs.lemmas.Bool.{true≢false}
 use Rattle.jiff_core.specs.declared.civil.datetime.DateTime.{DateTime}
 use Rattle.dump_text.specs.Streams.{dump_by, records_of}
-use Rattle.fleet_disk.specs.Image.{Image, no_bytes}
+use Rattle.fleet_disk.specs.Image.{Image}
 use Rattle.fleet_disk.specs.Lasting.{KeepsNames}
 use Rattle.fleet_disk.specs.declared.disk.Disk.{Ghosts}
 use Rattle.node_base.specs.Path.{Path}
 use Rattle.node_base.specs.PathText.{path_read}
 use Rattle.node_base.specs.declared.refusal.Refusal.{Refusal}
 use Rattle.node_base.specs.declared.refusal.Refusal.TheVariants as refusal
-use Rattle.repo_core.specs.Repository.{fresh}
 use Rattle.repo_store.specs.Journal.{Keeps}
 use Rattle.repo_store.specs.Words.{disk_of, repository_of, revisions_of, HasFailed, IsKept as IsStored}
 use Rattle.repo_store.specs.declared.store.RepoStore.{RepoStore}
@@ -26,7 +25,7 @@ use Rattle.store_engines.specs.Loads.{Loaded, ServesOne, ServesRecords, Refused 
 use Rattle.store_engines.specs.Mirrors.{is_mirror}
 use Rattle.store_engines.specs.Ranges.{count_wanted, first_wanted, last_wanted}
 use Rattle.store_engines.specs.declared.range.RevRange.{RevRange}
-use Rattle.fleet_main.specs.Doing.{EndsWith, HandsOn, IsBegun, IsBegunIn, IsCommittedTo, IsDumped, IsHeadOf, IsKept, IsKeptOr, IsLoadedFrom, IsOpenedIn, IsOpenedOn, NoHeadOf, NotCommittedTo, NotDumped, NotLoadedFrom, OfStanding, UnopenedOr, head_line, not_done, not_handed_on}
+use Rattle.fleet_main.specs.Doing.{EndsWith, HandsOn, IsBegun, IsBegunIn, IsCommittedTo, IsDumped, IsHeadOf, IsKept, IsKeptOr, IsLoadedFrom, IsOpenedIn, IsOpenedOn, NoHeadOf, NotCommittedTo, NotDumped, NotLoadedFrom, OfStanding, UnopenedOr, head_line, not_handed_on}
 use Rattle.fleet_main.specs.Loans.{TakesBack}
 use Rattle.fleet_main.specs.declared.lending.Folders.{Ghosts as FolderGhosts}
 use Rattle.fleet_main.proofs.Lasting.{still_made}

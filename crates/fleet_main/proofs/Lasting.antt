@@ -5,15 +5,12 @@ use Rattle.fleet_disk.specs.FolderFiles.{path_in}
 use Rattle.fleet_disk.specs.Image.{Image, no_bytes}
 use Rattle.fleet_disk.specs.Lasting.{IsMadeToLast, KeepsNames, LastsUnlessFull, LastsUnlessLacking}
 use Rattle.fleet_disk.specs.declared.disk.Disk.{Ghosts}
-use Rattle.fleet_disk.specs.declared.disk.DiskFile.{DiskFile}
-use Rattle.gate_log.specs.Log.{version_of}
-use Rattle.gate_log.specs.Standing.{last_end, parts, IsRising, Stands}
+use Rattle.gate_log.specs.Standing.{last_end, IsRising, Stands}
 use Rattle.gate_log.specs.Version.{IsOf}
-use Rattle.gate_log.specs.declared.version.LogVersion.{LogVersion}
 use Rattle.gate_log.specs.declared.version.LogVersion.TheVariants.{First, Second}
 use Rattle.repo_core.specs.Repository.{Revision}
 use Rattle.repo_store.specs.Journal.{ReopensTo, StandsFor}
-use Rattle.repo_store.specs.Words.{identity_of, log_of, revisions_of}
+use Rattle.repo_store.specs.Words.{identity_of, revisions_of}
 use Rattle.repo_store.specs.declared.store.RepoStore.{RepoStore}
 use Rattle.fleet_main.specs.Doing.{FilesLast, IsOpenedOn}
 use Rattle.fleet_main.specs.declared.lending.Folders.{Ghosts as FolderGhosts}

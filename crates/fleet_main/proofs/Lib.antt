@@ -1,6 +1,7 @@
 pub mod Brought
 pub mod Doing
 pub mod Dumping
+pub mod Ended
 pub mod Lasting
 pub mod Loans
 pub mod Mirroring

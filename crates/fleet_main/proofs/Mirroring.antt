@@ -1,5 +1,5 @@
 -- What is done over a mirror and its source, step by step.
-use Rattle.std.proofs.Common.{◌≡◌, ◌⊎◌, ◌<◌, length, ℕ, Bool, true, false, List, [], ◌∷◌, Option, Some, None, Result, Ok, Err, IfErr, inl, inr, refl, sym, ap, subst, ◌∙◌}
+use Rattle.std.proofs.Common.{◌≡◌, ◌⊎◌, ℕ, Bool, true, false, List, [], ◌∷◌, Option, None, Result, Ok, Err, IfErr, inl, inr, refl, sym, subst, ◌∙◌}
 use Rattle.std.specs.Result.{OnOk}
 use Rattle.std.specs.List.{AllByRecursion, flat_map}
 use Rattle.std.specs.Io.KnownBytes.{Appends}
@@ -13,7 +13,6 @@ use Rattle.repo_store.specs.declared.store.RepoStore.{RepoStore}
 use Rattle.sync_core.specs.declared.fault.SyncFault.{SyncFault}
 use Rattle.sync_core.specs.World.{Origin}
 use Rattle.sync_job.specs.Alone.{lent_in, IsAnsweredBy, IsHeardOf, IsMasterAt}
-use Rattle.sync_job.specs.Fronts.{accepted_in, counted_in}
 use Rattle.sync_job.specs.Leading.{TellsMaster}
 use Rattle.sync_job.specs.Questions.{Exchange}
 use Rattle.sync_job.specs.Said.{Spoken, told_in}
@@ -27,7 +26,7 @@ use Rattle.mirror_engines.specs.Runs.{answer_of, IsWorked, Serves}
 use Rattle.mirror_engines.specs.Worlds.{later_at, stands_in, stands_last, BringsTrees, Hears, IsCaughtUp, EventsInWorld, IsMirroredFrom, IsPortOf, StopsInWorld}
 use Rattle.mirror_engines.specs.declared.work.Work.{Work}
 use Rattle.mirror_engines.proofs.Worlds.{events_on, stops_at}
-use Rattle.fleet_main.specs.Doing.{BroughtOn, IsBrought, IsKept, IsOpenedIn, IsToldOf, IsWorkedOver, NoSourceOr, NotBrought, NotBroughtOn, NotKept, NotToldOf, NotWorkedOn, NotWorkedOver, OfBoth, OfStanding, OverSource, UnopenedBoth, UnopenedOr, WorkedOn, no_source, both}
+use Rattle.fleet_main.specs.Doing.{BroughtOn, IsBrought, IsOpenedIn, IsToldOf, NoSourceOr, NotBrought, NotBroughtOn, NotToldOf, NotWorkedOn, OfBoth, OfStanding, OverSource, UnopenedBoth, UnopenedOr, WorkedOn, no_source, both}
 use Rattle.fleet_main.specs.Loans.{TakesBack, only_of}
 use Rattle.fleet_main.specs.declared.lending.Folders.{Ghosts as FolderGhosts}
 use Rattle.fleet_main.proofs.Doing.{KeptThen, kept_opened, standing}

@@ -1,5 +1,5 @@
 -- What is done over the mirror that stands in a folder and a server, step by step.
-use Rattle.std.proofs.Common.{◌≡◌, ◌⊎◌, ℕ, Bool, List, [], ◌∷◌, Option, Result, Ok, Err, inl, inr, refl, sym, ap, subst, ◌∙◌, IfErr}
+use Rattle.std.proofs.Common.{◌≡◌, ◌⊎◌, ℕ, List, [], ◌∷◌, Option, Result, Ok, Err, inl, inr, sym, ap, subst, ◌∙◌, IfErr}
 use Rattle.std.specs.Result.{OnOk}
 use Rattle.std.specs.List.{AllByRecursion}
 use Rattle.fleet_disk.specs.declared.disk.Disk.{Ghosts}
@@ -10,13 +10,12 @@ use Rattle.repo_store.specs.declared.store.RepoStore.{RepoStore}
 use Rattle.sync_core.specs.declared.fault.SyncFault.{SyncFault}
 use Rattle.sync_job.specs.Questions.{Exchange}
 use Rattle.sync_job.specs.Said.{Spoken}
-use Rattle.mirror_engines.specs.Runs.{IsWorked}
 use Rattle.mirror_engines.specs.Worlds.{unknown}
 use Rattle.mirror_engines.specs.declared.work.Work.{Work}
 use Rattle.svn_ends.specs.Runs.{RunsFrom, RunsOver, Unreached, Reached, Unopened, Ran}
-use Rattle.fleet_main.specs.Doing.{IsOpenedIn, IsWorkedOver, NotWorkedOn, NotWorkedOver, OfStanding, UnopenedOr, WorkedOn, untold}
+use Rattle.fleet_main.specs.Doing.{IsOpenedIn, IsWorkedOver, NotWorkedOn, OfStanding, UnopenedOr, WorkedOn, untold}
 use Rattle.fleet_main.specs.Loans.{TakesBack}
-use Rattle.fleet_main.specs.Pulling.{NotKeptFor, NotPulledOn, NotPulledOver, work_as}
+use Rattle.fleet_main.specs.Pulling.{NotPulledOn, NotPulledOver, work_as}
 use Rattle.command_words.specs.declared.command_line.Task.{Task}
 use Rattle.fleet_main.specs.declared.lending.Folders.{Ghosts as FolderGhosts}
 use Rattle.fleet_main.proofs.Doing.{KeptThen, kept_opened, standing}

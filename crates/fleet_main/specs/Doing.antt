@@ -1,5 +1,5 @@
 -- What a command does, and why it doesn't.
-use Rattle.std.specs.Prelude.{◌≡◌, ◌≢◌, ◌≤◌, ◌⊎◌, ◌<◌, ℕ, Bool, true, false, List, [], ◌∷◌, ◌++◌, codes, length, Option, Some, None, IfSome, Result, Ok, Err, string_bytes}
+use Rattle.std.specs.Prelude.{◌≡◌, ◌≢◌, ◌≤◌, ◌⊎◌, ◌<◌, ℕ, Bool, true, false, List, [], ◌∷◌, ◌++◌, codes, length, Option, None, IfSome, Result, Ok, Err, string_bytes}
 use Rattle.std.specs.Fmt.{decimal}
 use Rattle.std.specs.List.{filter, flat_map}
 use Rattle.std.specs.Io.KnownBytes.{Appends, Keeps as HandedOn}
@@ -20,7 +20,7 @@ use Rattle.node_base.specs.PathText.{path_read}
 use Rattle.node_base.specs.declared.refusal.Refusal.{Refusal}
 use Rattle.node_base.specs.declared.refusal.Refusal.TheVariants as refusal
 use Rattle.node_base.specs.declared.limits.TheConstants.{PROP_VALUE_BYTES}
-use Rattle.repo_core.specs.Repository.{Repository, Revision, fresh, head_of, props_at}
+use Rattle.repo_core.specs.Repository.{Revision, fresh, head_of, props_at}
 use Rattle.repo_store.specs.Journal.{beginning_of, Keeps, KeepsAlike, KeepsOr, ReopensTo}
 use Rattle.repo_store.specs.Words.{disk_of, doubt_of, identity_of, log_of, repository_of, revisions_of, HasFailed}
 use Rattle.repo_store.specs.declared.store.RepoStore.{RepoStore}
@@ -314,10 +314,14 @@ pub data UnopenedBoth {F D : Type 0} (G : Ghosts D) (H : FolderGhosts F D) (fold
 abbrev pub NotKept : List ℕ → Option (List ℕ) → Option (List ℕ) → Refusal → Type 0
 NotKept source before now e = ((e ≡ refusal.OutOfMemory) ⊎ ((e ≡ refusal.TooLong) × (PROP_VALUE_BYTES < length source))) × (now ≡ before)
 
+-- the output failed, which 49 tells where its count rose
+abbrev pub OutputFails : ℕ → ℕ → Refusal → Type 0
+OutputFails start count e = Rose start count × ((e ≡ refusal.PeerFailed) ⊎ (count ≡ start))
+
 -- a command isn't done: why, what is written then, and what is left of the folders; the output had failed so often at the start and has by now
 abbrev pub IsNotDone : {F D : Type 0} → Ghosts D → FolderGhosts F D → F → F → Command → Option (List ℕ) → Option (List ℕ) → ℕ → Option (List ℕ) → ℕ → Refusal → Type 0
-IsNotDone G H folders later (ListIt deltas) bytes before start now count e = (Rose start count ⊎ IfSome bytes (λ read. Refused deltas product.List read before now e)) × AreBack G H folders later []
-IsNotDone G H folders later (Canon deltas) bytes before start now count e = (Rose start count ⊎ IfSome bytes (λ read. Refused deltas product.Canon read before now e)) × AreBack G H folders later []
+IsNotDone G H folders later (ListIt deltas) bytes before start now count e = (OutputFails start count e ⊎ IfSome bytes (λ read. Refused deltas product.List read before now e)) × AreBack G H folders later []
+IsNotDone G H folders later (Canon deltas) bytes before start now count e = (OutputFails start count e ⊎ IfSome bytes (λ read. Refused deltas product.Canon read before now e)) × AreBack G H folders later []
 IsNotDone G H folders later (Create folder identity) bytes before start now count e = NotBegunIn G H folders later (string_bytes folder) identity e × (now ≡ before)
 IsNotDone G H folders later (Load folder deltas) bytes before start now count e =
     UnopenedOr G H folders later (string_bytes folder) before now e (NotLoadedFrom deltas (H.honest folders) bytes before now (Rose start count) e)

@@ -1,7 +1,7 @@
 -- What came of the disks that folders lent.
 use Rattle.std.specs.Prelude.{◌≡◌, ◌≢◌, ◌≤◌, ℕ, List, [], ◌∷◌}
 use Rattle.fleet_disk.specs.declared.disk.Disk.{Ghosts}
-use Rattle.fleet_disk.specs.Lending.{FolderDisk, Lent, There, IsGiven, OthersStay}
+use Rattle.fleet_disk.specs.Lending.{Lent, There, IsGiven, OthersStay}
 use Rattle.fleet_main.specs.declared.lending.Folders.{Ghosts as FolderGhosts}
 
 -- a folder's disk is lent, and other folders stay

@@ -221,8 +221,9 @@ where
 /// Of honest folders it says besides what repository each folder's disk kept, that a stop left it as the run began, and
 /// that each folder has a store's disk again in the end, if the disks still keep the rules, and every other folder what
 /// it had. Of a mirror that is told with a number it says that it has what it had, and besides revisions of the master's up
-/// to that number; where all that it had was the master's, all that it has is. One that is told as failed (32) behind a run
-/// that ended well has a revision besides that isn't the master's, or lost one that it had, or the master did.
+/// to that number, no fewer than the master was opened with; where all that it had was the master's, all that it has is. One
+/// that is told as failed (32) behind a run that ended well has fewer, or a revision besides that isn't the master's, or lost
+/// one that it had, or the master did.
 pub fn fleet<
     R: Threads + Wait + Clone + Send + Drop + 'static,
     F: Folders,

@@ -10,7 +10,7 @@ ghost use Rattle.fleet_main.specs.Commands.{RefusesSource, RefusesStores, Refuse
 ghost use Rattle.fleet_main.specs.Commands.{SucceedsAtCommand, TellsMirror, UpgradesLog, WorksWithSource, WorksOver};
 ghost use Rattle.fleet_main.specs.Doing.{IsBegun};
 ghost use Rattle.fleet_main.specs.Doing.{BroughtOn};
-ghost use Rattle.fleet_main.specs.Ending.{IsStreamFailure, StreamsWork, TellsLine};
+ghost use Rattle.fleet_main.specs.Ending.{IsStreamFailure, SparesInput, StreamsWork, TellsLine};
 ghost use Rattle.svn_ends.specs.Runs.{IsOutputFailure};
 ghost use Rattle.fleet_disk.specs.Lending.{MakesIn};
 ghost use Rattle.fleet_main.specs.Making.{MakesFor, PathsStay};
@@ -337,6 +337,7 @@ fn run_one<F: Folders, I: Input, O: Output + Drop>(
     ensures unfailed { OnOk result.1 (StreamsWork I.Input O.Output input.old input.new output result.0) }
     ensures made { MakesFor F.lacks F.lasts command folders.old folders.new }
     ensures peer { IsStreamFailure I.Input O.Output input.old input.new output result.0 result.1 }
+    ensures spares { SparesInput command input.old input.new }
 {
     let mut output = output;
     match command {
@@ -441,6 +442,7 @@ fn run_flushed<F: Folders, I: Input, O: Output + Drop>(
     ensures unfailed { OnOk result.1 (StreamsWork I.Input O.Output input.old input.new output result.0) }
     ensures made { MakesFor F.lacks F.lasts command folders.old folders.new }
     ensures peer { IsStreamFailure I.Input O.Output input.old input.new output result.0 result.1 }
+    ensures spares { SparesInput command input.old input.new }
 {
     let (output, done) = run_one(alloc, folders, command, input, output);
     let mut output = output;
@@ -453,7 +455,7 @@ fn run_flushed<F: Folders, I: Input, O: Output + Drop>(
 
 /// Runs a command over folders. The status is 0 where it is done and what it wrote is handed on, or 1 where it was
 /// refused, and then the refusal's line is on `errors`. What was written before a refusal is flushed before its line.
-/// The output comes back as the command has left it.
+/// The output comes back as the command has left it. `list`, `canon` and `load` alone read the input.
 ///
 /// Of honest folders it says besides what repository the folder's disk kept, what the command made of it, and what a
 /// stop leaves at each moment and afterwards: the folder has that disk again in the end, and every other folder what it
@@ -475,6 +477,7 @@ pub fn run<F: Folders, I: Input, O: Output + Drop, E: Output>(
     ensures handed { result.0 ≡ 0 → O.is_handed_on result.1 }
     ensures unfailed { result.0 ≡ 0 → StreamsWork I.Input O.Output input.old input.new output result.1 }
     ensures silent { result.0 ≡ 0 → E.contents errors.new ≡ E.contents errors.old }
+    ensures spares { SparesInput command input.old input.new }
     ensures refused { FailsAtCommand F.Place.Disk F.Folders I.Input O.Output E.Output folders.old folders.new input.old
         input.new output result.1 errors.old errors.new command result.0 }
 {

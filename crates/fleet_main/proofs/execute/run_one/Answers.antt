@@ -1,8 +1,6 @@
-use Rattle.std.proofs.Common.{refl, string_bytes, subst, sym, IfErr, IfSome, List, ℕ, ◌⊎◌, ◌≡◌, true, []}
+use Rattle.std.proofs.Common.{refl, string_bytes, subst, sym, IfErr, ◌⊎◌, []}
 use Rattle.std.specs.Result.{OnOk}
 use Rattle.store_engines.specs.Ranges.{first_in, last_in}
-use Rattle.fleet_engines.specs.Runs.{Accepted, Refused}
-use Rattle.fleet_engines.specs.declared.product.Product.TheVariants as product
 use Rattle.mirror_engines.specs.declared.work.Work.TheVariants as work
 use Rattle.byte_streams.specs.Causes.{Rose}
 use Rattle.fleet_main.specs.Doing.{IsCommittedTo, IsDone, IsDumped, IsHeadOf, IsLoadedFrom, IsNotDone, IsToldOf, IsBrought, NoHeadOf, NotCommittedTo, NotDumped, NotKept, NotLoadedFrom, NotToldOf, NotBrought, OfBoth, OfStanding, OfUpgrade, UnopenedBoth, UnopenedOr, UnopenedOrUpgrade}
@@ -10,7 +8,9 @@ use Rattle.fleet_main.specs.Loans.{AreBack}
 use Rattle.store_engines.specs.Upgrades.{IsUpgraded, NotUpgraded}
 use Rattle.fleet_main.specs.Opening.{NotBegunIn}
 use Rattle.fleet_main.proofs.Doing.{committed_at, done_at, err_and, not_committed_at, ok_and, refused_at}
+use Rattle.fleet_main.proofs.Ended.{spared, told_failure}
 use Rattle.fleet_main.proofs.Loans.{none_lent}
+use Rattle.fleet_main.specs.Ending.{SparesInput}
 use Rattle.fleet_main.proofs.Mirroring.{both_at, not_both_at}
 use Rattle.fleet_main.proofs.execute.run_one.Goals as goal
 
@@ -22,7 +22,7 @@ returns-in-List-clause-done g c =
 pub returns-in-List-clause-refused : goal.returns-in-List-clause-refused
 returns-in-List-clause-refused g c =
     subst (λ k. IfErr c.run_list-done.result (IsNotDone g.F.Place.Disk g.F.Folders c.args.folders.now c.args.folders.now k (g.I.Input.remaining c.args.input.now) (g.O.Output.contents c.args.output) (g.O.Output.failures c.args.output) (g.O.Output.contents c.run_list-done.new.output) (g.O.Output.failures c.run_list-done.new.output))) (sym c.in-List.is)
-    (err_and c.run_list-done.result _ _ c.run_list-done.ensures.refused (none_lent g.F.Place.Disk g.F.Folders c.args.folders.now))
+    (err_and c.run_list-done.result _ _ (told_failure c.run_list-done.result _ _ _ _ c.run_list-done.ensures.refused c.run_list-done.ensures.peer) (none_lent g.F.Place.Disk g.F.Folders c.args.folders.now))
 
 pub returns-in-Canon-clause-done : goal.returns-in-Canon-clause-done
 returns-in-Canon-clause-done g c =
@@ -32,7 +32,7 @@ returns-in-Canon-clause-done g c =
 pub returns-in-Canon-clause-refused : goal.returns-in-Canon-clause-refused
 returns-in-Canon-clause-refused g c =
     subst (λ k. IfErr c.run_canon-done.result (IsNotDone g.F.Place.Disk g.F.Folders c.args.folders.now c.args.folders.now k (g.I.Input.remaining c.args.input.now) (g.O.Output.contents c.args.output) (g.O.Output.failures c.args.output) (g.O.Output.contents c.run_canon-done.new.output) (g.O.Output.failures c.run_canon-done.new.output))) (sym c.in-Canon.is)
-    (err_and c.run_canon-done.result _ _ c.run_canon-done.ensures.refused (none_lent g.F.Place.Disk g.F.Folders c.args.folders.now))
+    (err_and c.run_canon-done.result _ _ (told_failure c.run_canon-done.result _ _ _ _ c.run_canon-done.ensures.refused c.run_canon-done.ensures.peer) (none_lent g.F.Place.Disk g.F.Folders c.args.folders.now))
 
 pub returns-in-Create-clause-refused : goal.returns-in-Create-clause-refused
 returns-in-Create-clause-refused g c =
@@ -139,3 +139,39 @@ pub returns-in-Head-clause-refused : goal.returns-in-Head-clause-refused
 returns-in-Head-clause-refused g c =
     subst (λ k. IfErr c.head-done.result (IsNotDone g.F.Place.Disk g.F.Folders c.args.folders.now c.head-done.new.folders k (g.I.Input.remaining c.args.input.now) (g.O.Output.contents c.args.output) (g.O.Output.failures c.args.output) (g.O.Output.contents c.head-done.new.output) (g.O.Output.failures c.head-done.new.output))) (sym c.in-Head.is)
     (refused_at c.head-done.result (λ t e. UnopenedOr g.F.Place.Disk g.F.Folders c.args.folders.now c.head-done.new.folders t (g.O.Output.contents c.args.output) (g.O.Output.contents c.head-done.new.output) e (NoHeadOf (g.F.Folders.honest c.args.folders.now) (Rose (g.O.Output.failures c.args.output) (g.O.Output.failures c.head-done.new.output)) e)) c.as_str-in-Head.result.now (string_bytes c.in-Head.folder) c.as_str-in-Head.ensures.value c.head-done.ensures.refused)
+
+pub returns-in-List-clause-spares : goal.returns-in-List-clause-spares
+returns-in-List-clause-spares g c = subst (λ k. SparesInput k c.args.input.now c.run_list-done.new.input) (sym c.in-List.is) tt
+
+pub returns-in-Canon-clause-spares : goal.returns-in-Canon-clause-spares
+returns-in-Canon-clause-spares g c = subst (λ k. SparesInput k c.args.input.now c.run_canon-done.new.input) (sym c.in-Canon.is) tt
+
+pub returns-in-Load-clause-spares : goal.returns-in-Load-clause-spares
+returns-in-Load-clause-spares g c = subst (λ k. SparesInput k c.args.input.now c.load-done.new.input) (sym c.in-Load.is) tt
+
+pub returns-in-Create-clause-spares : goal.returns-in-Create-clause-spares
+returns-in-Create-clause-spares g c = spared _ _
+
+pub returns-in-Dump-clause-spares : goal.returns-in-Dump-clause-spares
+returns-in-Dump-clause-spares g c = spared _ _
+
+pub returns-in-MakeDir-clause-spares : goal.returns-in-MakeDir-clause-spares
+returns-in-MakeDir-clause-spares g c = spared _ _
+
+pub returns-in-Upgrade-clause-spares : goal.returns-in-Upgrade-clause-spares
+returns-in-Upgrade-clause-spares g c = spared _ _
+
+pub returns-in-Initialize-clause-spares : goal.returns-in-Initialize-clause-spares
+returns-in-Initialize-clause-spares g c = spared _ _
+
+pub returns-in-Synchronize-clause-spares : goal.returns-in-Synchronize-clause-spares
+returns-in-Synchronize-clause-spares g c = spared _ _
+
+pub returns-in-CopyRevprops-clause-spares : goal.returns-in-CopyRevprops-clause-spares
+returns-in-CopyRevprops-clause-spares g c = spared _ _
+
+pub returns-in-Info-clause-spares : goal.returns-in-Info-clause-spares
+returns-in-Info-clause-spares g c = spared _ _
+
+pub returns-in-Head-clause-spares : goal.returns-in-Head-clause-spares
+returns-in-Head-clause-spares g c = spared _ _

@@ -1,6 +1,5 @@
-use Rattle.std.proofs.Common.{refl, rules}
-use Rattle.fleet_main.proofs.Loans.{none_lent, not_lent}
-use Rattle.fleet_main.proofs.Opening.{is_unopened, open_nameless, open_refused, open_unlent, opened_on}
+use Rattle.fleet_main.proofs.Loans.{not_lent}
+use Rattle.fleet_main.proofs.Opening.{is_unopened, open_refused, open_unlent, opened_on}
 use Rattle.fleet_main.proofs.folders.opened.Goals as goal
 
 pub returns-in-Ok-open-clause-opened : goal.returns-in-Ok-open-clause-opened
