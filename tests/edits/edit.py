@@ -26,6 +26,9 @@ class Edit:
                     new = line[len("new:") :]
                     self.pairs.append((file, old, new[1:] if new.startswith(" ") else new))
                     old = None
+                elif line.startswith("more:") and self.pairs:
+                    file_of, taken, new = self.pairs[-1]
+                    self.pairs[-1] = file_of, taken, f"{new}\n{line[len('more: ') :]}"
         texts = {}
         if not self.apply(folder, texts) or not self.pairs:
             self.why = self.why or "it has no pair of old and new"
