@@ -111,6 +111,22 @@ check 'hook: it goes on without it' sh -c "svn mkdir -q -m last '$url/last' 2>&1
 check 'hook: all is there' "$program" dump archive -r "$(svnlook youngest repo):$(svnlook youngest repo)" >dumped </dev/null
 check 'compare: the same with those options' compares 0
 
+# what options leave out is missing in a copy of its folder
+cp repo/conf/svnfleet-archive conf.before
+printf '%s\n' "options='--exclude \"/a big.bin\" --exclude /holds/left'" >>repo/conf/svnfleet-archive
+svn mkdir -q -m holds "$url/holds"
+echo text >left
+svn import -q -m 'one left out' left "$url/holds/left"
+svn copy -q -m 'its folder once more' "$url/holds" "$url/copied"
+svn checkout -q "$url/copied" copied
+echo more >>copied/left
+svn commit -m 'of the copy' copied >svn.out 2>&1
+check 'hook: a change of what the copy lacks' grep -q 'svnfleet: 11 no such path' svn.out
+check 'hook: a change of what the copy lacks: what helps' grep -q "revision $(svnlook youngest repo) isn't archived: 'options=' may have to leave out a copy too" svn.out
+printf '%s\n' "options='--exclude \"/a big.bin\" --exclude /holds/left --exclude /copied/left'" >>repo/conf/svnfleet-archive
+check 'hook: it goes on without the copy' sh -c "svn mkdir -q -m without '$url/without' 2>&1 | grep . && exit 1 || exit 0"
+mv conf.before repo/conf/svnfleet-archive
+
 # a Subversion repository that breaks off, and one that is a mirror itself
 rm -rf archive
 "$program" create archive --uuid "$(svnlook uuid repo)" </dev/null
