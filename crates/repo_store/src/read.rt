@@ -183,8 +183,18 @@ fn is_canonical(
     Ok(again == bytes)
 }
 
+// The most bytes of an entry whose memory is kept for the next: 64 KiB.
+const KEPT: usize = 65_536;
+
+// Gives back the memory that a long entry took.
+fn let_go(alloc: Global, written: &mut VecWriter, bytes: usize) {
+    if bytes > KEPT {
+        *written = VecWriter::new(alloc);
+    }
+}
+
 /// The revision that an entry's bytes spell, its nodes in their order. What they are compared with is written to
-/// memory of the caller, which serves the next entry too.
+/// memory of the caller, which serves the next entry too, where it isn't long.
 #[tactic(auto, using(crate::proofs::Reading::is_revision))]
 pub fn read_revision(
     alloc: Global,
@@ -198,6 +208,7 @@ pub fn read_revision(
     let records = records_behind(alloc, bytes)?;
     let revision = revision_of(alloc, records)?;
     let canonical = is_canonical(&revision, bytes, written)?;
+    let_go(alloc, written, bytes.len());
     if canonical {
         Ok(revision)
     } else {
