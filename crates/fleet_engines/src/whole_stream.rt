@@ -1,5 +1,5 @@
 //! A dump that is read to its end, by whoever takes its records.
-ghost use Rattle.std.specs.Prelude.{◌≡◌, ◌<◌, length, IfErr, OnOk};
+ghost use Rattle.std.specs.Prelude.{◌≡◌, ◌<◌, [], length, IfErr, OnOk};
 ghost use Rattle.dump_text.specs.Streams.{fresh_by};
 ghost use Rattle.fleet_engines.specs.Streams.{GoesOn, HaltsDump, HaltsIn, ReachesEnd, TakesDump, TellsEither};
 ghost use Rattle.fleet_engines.specs.Streams.{TellsFailure};
@@ -14,6 +14,18 @@ use std::alloc::Global;
 
 // How many bytes are read at a time: 64 KiB.
 const PIECE: usize = 65_536;
+
+// How many records most pieces have at most.
+const RECORDS: usize = 256;
+
+// No records, with room for those of most pieces, if there is memory.
+fn no_records(alloc: Global) -> Vec<DumpRecord>
+    ensures { result.items ≡ [] }
+{
+    let mut records = Vec::new(alloc);
+    let _ = records.reserve(RECORDS);
+    records
+}
 
 // A reader before the first byte, which takes texts that are given as deltas or refuses them.
 fn new_reader(alloc: Global, deltas: bool) -> DumpReader
@@ -60,7 +72,7 @@ fn feed<S, O, K: Taker<S, O>>(
         (place taker.new store.new output.new)) }
     ensures peer { TellsFailure K.failures output.old output.new result }
 {
-    let mut records = Vec::new(alloc);
+    let mut records = no_records(alloc);
     let fed = reader.feed(piece, &mut records);
     take_all(taker, records, store, output)?;
     match fed {

@@ -14,7 +14,7 @@ returns-in-Ok-clause-ok g c =
     let out = c.feed-fed.new.out.items in
     let piece = c.args.piece.now in
     λ deltas bytes first. fed_ok deltas k.takes k.refuses k.cant_end bytes piece old new out first (place c.args.taker.now c.args.store.now c.args.output.now) (place c.take_all.new.taker c.take_all.new.store c.take_all.new.output)
-    (λ e. subst (λ l. reading (Reads l old) piece ≡ Reads out new) c.new-records.ensures.items (c.in-Ok.ensures.reads e)) c.in_ok-take_all.ensures.ok
+    (λ e. subst (λ l. reading (Reads l old) piece ≡ Reads out new) c.no_records-records.ensures (c.in-Ok.ensures.reads e)) c.in_ok-take_all.ensures.ok
 
 pub returns-in-Err-clause-refused : goal.returns-in-Err-clause-refused
 returns-in-Err-clause-refused g c =
@@ -23,7 +23,7 @@ returns-in-Err-clause-refused g c =
     let new = c.feed-fed.new.self in
     let out = c.feed-fed.new.out.items in
     let piece = c.args.piece.now in
-    let none = c.new-records.ensures.items in
+    let none = c.no_records-records.ensures in
     rw c.dump_refusal.ensures.value
     (λ deltas bytes rest first. fed_err deltas k.takes k.refuses k.cant_end bytes piece rest old new out first (place c.args.taker.now c.args.store.now c.args.output.now) (place c.take_all.new.taker c.take_all.new.store c.take_all.new.output) c.in-Err.fault
     (λ e. subst (λ l. StreamIs (Err c.in-Err.fault) new out (reading (Reads l old) piece)) none (c.in-Err.ensures.reads e))
@@ -38,7 +38,7 @@ returns-in_err-take_all-clause-refused g c =
     let new = c.feed-fed.new.self in
     let out = c.feed-fed.new.out.items in
     let piece = c.args.piece.now in
-    let none = c.new-records.ensures.items in
+    let none = c.no_records-records.ensures in
     rw (p.1, p.2)
     (λ deltas bytes rest first. fed_stops deltas k.takes k.refuses k.cant_end bytes piece rest old new out first (place c.args.taker.now c.args.store.now c.args.output.now) (place c.take_all.new.taker c.take_all.new.store c.take_all.new.output) c.feed-fed.result c.in_err-take_all.field-0.0
     (λ e. subst (λ l. StreamIs c.feed-fed.result new out (reading (Reads l old) piece)) none (c.feed-fed.ensures.reads e))
