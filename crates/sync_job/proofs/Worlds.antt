@@ -538,8 +538,8 @@ leaves stands_old stands_new seat d a before first served none uncounted h m s =
     let x = h m s in
     record { now = m; there = x.0; served = served m; come = come_stays m (accepted_by d (outcome_of a)) (counted_by d (outcome_of a)) none uncounted; free = λ k c. no_one k (counted_by d (outcome_of a)) uncounted c; trees = x.1 }
 
--- the tree behind those at hand
-rest_at : (trees rest : List PathMap) (t : PathMap) → slice_get (trees ++ rest) (length trees) ≡ Some t → (more : List PathMap) × (rest ≡ t ∷ more)
+-- what stands behind those at hand
+pub rest_at : {X : Type 0} (front rest : List X) (t : X) → slice_get (front ++ rest) (length front) ≡ Some t → (more : List X) × (rest ≡ t ∷ more)
 rest_at [] [] t h = none_isnt t h
 rest_at [] (x ∷ xs) t h = (xs, ap (λ y. y ∷ xs) (some_is x t h))
 rest_at (y ∷ ys) rest t h = rest_at ys rest t h

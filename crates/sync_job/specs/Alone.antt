@@ -132,5 +132,14 @@ IsCausedBy r (Fetch n trees (Err f)) = IsFaultAt r n f
 IsCausedBy r (FetchProps n (Err f)) = IsFaultAt r n f
 IsCausedBy r x = Unit {0}
 
+-- this is the repository's own set of that number
+abbrev pub IsSetOf : Repository → ℕ → List Change → Type 0
+IsSetOf r n set = slice_get r.sets n ≡ Some set
+
+-- each set that it gives is
+abbrev pub GivesOwn : Repository → Exchange → Type 0
+GivesOwn r (Fetch n trees (Ok v)) = IsSetOf r n v.set
+GivesOwn r x = Unit {0}
+
 abbrev pub IsAnsweredBy : Repository → Exchange → Type 0
-IsAnsweredBy r x = IsHeardOf r x × IsCausedBy r x
+IsAnsweredBy r x = IsHeardOf r x × IsCausedBy r x × GivesOwn r x

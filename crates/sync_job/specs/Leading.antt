@@ -1,11 +1,12 @@
 -- What was said in a run leads its mirror, and so by what the master told.
 use Rattle.std.specs.Prelude.{◌≡◌, ◌≤◌, ◌<◌, ℕ, List, ◌++◌, length}
 use Rattle.std.specs.List.{AllByRecursion, AllZip}
+use Rattle.dump_load.specs.declared.change.Change.{Change}
 use Rattle.repo_core.specs.Repository.{Repository, trees_of}
 use Rattle.sync_core.specs.Jobs.{Order, Job, begun}
 use Rattle.sync_core.specs.Mirror.{Call}
 use Rattle.sync_core.specs.SyncFollows.{IsSynced}
-use Rattle.sync_job.specs.Alone.{IsHeardOf}
+use Rattle.sync_job.specs.Alone.{IsAnsweredBy, IsHeardOf}
 use Rattle.sync_job.specs.Asked.{Asked}
 use Rattle.sync_job.specs.Fronts.{counted_in, replayed}
 use Rattle.sync_job.specs.Mirrors.{MirrorNow, Steps}
@@ -47,6 +48,18 @@ FrontsStayFirst =
     (source : Repository) (order : Order) (said : List Spoken) (m now : MirrorNow) → IsLawful (begun order) said
     → TellsMaster (IsHeardOf source) said → LeadsMirror m said now → 0 < length m.repository.revisions → AreFirst (trees_of m.repository.revisions) (trees_of source.revisions)
     → (front rest : List Call) → front ++ rest ≡ counted_in said → StaysFirst source m.repository (replayed m.repository front)
+
+-- the sets of one are the other's first ones
+abbrev pub HasFirstSets : Repository → Repository → Type 0
+HasFirstSets source r = (rest : List (List Change)) × (r.sets ++ rest ≡ source.sets)
+
+-- where the sets of a mirror, one for each revision, are the first ones of the repository that its master is and whose own sets it
+-- gives, they are so after each front of the calls that count
+abbrev pub FrontsKeepSets : Type 0
+FrontsKeepSets =
+    (source : Repository) (order : Order) (said : List Spoken) (m now : MirrorNow) → IsLawful (begun order) said
+    → TellsMaster (IsAnsweredBy source) said → LeadsMirror m said now → 0 < length m.repository.revisions → length m.repository.sets ≡ length m.repository.revisions → HasFirstSets source m.repository
+    → (front rest : List Call) → front ++ rest ≡ counted_in said → HasFirstSets source (replayed m.repository front)
 
 -- a job that ends well by what it has heard of that master leaves a mirror with as many revisions
 abbrev pub SyncedHasAll : Type 0

@@ -6,4 +6,4 @@ use Rattle.sync_job.proofs.Answering.{answered_so}
 use Rattle.sync_job.proofs.lent.LentMasterMasterPort.latest.Goals as goal
 
 pub returns-clause-answered : goal.returns-clause-answered
-returns-clause-answered g c = λ first made h. answered_so (λ a. repository_of a.store.now) c.args.self.now c.args.self.now first made (Latest (Ok c.head.result)) refl h (c.head.ensures.head ∙ ap (λ r. head_of r.revisions) c.repo.ensures.value, tt)
+returns-clause-answered g c = λ first made h. answered_so (λ a. repository_of a.store.now) c.args.self.now c.args.self.now first made (Latest (Ok c.head.result)) refl h (c.head.ensures.head ∙ ap (λ r. head_of r.revisions) c.repo.ensures.value, tt, tt)
