@@ -1,12 +1,13 @@
--- What a run leaves of a mirror's trees, where its master is a repository.
+-- What a run leaves of a mirror's trees and its sets, where its master is a repository.
 use Rattle.std.proofs.Common.{◌≡◌, ◌⊎◌, inl, inr, ℕ, ◌<◌, ◌≤◌, Bool, true, false, List, [], ◌∷◌, ◌++◌, length, Option, None, Result, Ok, Err, refl, sym, ap, subst, ◌∙◌}
 use Rattle.std.specs.Result.{OnOk}
-use Rattle.std.proofs.lemmas.List.{append-nil}
+use Rattle.std.proofs.lemmas.List.{append-nil, length-map}
 use Rattle.fleet_disk.specs.Image.{Image}
 use Rattle.fleet_disk.specs.Rules.{LeavesOnly}
 use Rattle.fleet_disk.specs.declared.disk.Disk.{Ghosts}
 use Rattle.node_base.specs.declared.refusal.Refusal.{Refusal}
-use Rattle.repo_core.specs.Repository.{Repository, trees_of}
+use Rattle.repo_core.proofs.MadeTrees.{length-made}
+use Rattle.repo_core.specs.Repository.{AllMade, IsRepository, Repository, trees_of}
 use Rattle.repo_store.specs.Journal as journal
 use Rattle.repo_store.specs.Words.{disk_of, repository_of, revisions_of, HasFailed}
 use Rattle.repo_store.specs.declared.store.RepoStore.{RepoStore}
@@ -15,9 +16,9 @@ use Rattle.sync_core.specs.Deeds.{Deed, Calls, AsksIdentity, AsksLatest, Fetches
 use Rattle.sync_core.specs.Mirror.{Call}
 use Rattle.sync_core.specs.SyncFollows.{IsSynced}
 use Rattle.sync_core.specs.declared.fault.SyncFault.{SyncFault}
-use Rattle.sync_job.specs.Alone.{begun, IsHeardOf}
+use Rattle.sync_job.specs.Alone.{begun, IsAnsweredBy, IsHeardOf}
 use Rattle.sync_job.specs.Fronts.{EndsKeepAll, HasCome, Working, Doubtful, KeepsFront, accepted_in, counted_in, replayed}
-use Rattle.sync_job.specs.Leading.{IsLawful, FrontsStayFirst, SyncedHasAll, StaysFirst, TellsMaster, LeadsMirror}
+use Rattle.sync_job.specs.Leading.{IsLawful, FrontsKeepSets, FrontsStayFirst, HasFirstSets, SyncedHasAll, StaysFirst, TellsMaster, LeadsMirror}
 use Rattle.sync_job.specs.Mirrors.{MirrorNow, Keeps}
 use Rattle.sync_job.specs.Questions.{Exchange}
 use Rattle.sync_job.specs.Runs.{AreRight, IsAsked, Runs, Synced, hears, hears_all}
@@ -26,7 +27,7 @@ use Rattle.sync_job.specs.declared.report.Told.{Told}
 use Rattle.sync_job.specs.Worlds.{AreFirst}
 use Rattle.sync_job.specs.declared.master.MasterPort.{Ghosts as MasterGhosts}
 use Rattle.mirror_engines.specs.Runs.{answer_of, IsWorked, Leaves, Serves}
-use Rattle.mirror_engines.specs.Worlds.{Brings, BringsTrees, Hears, IsCaughtUp, IsInWorld, IsPortOf, KeepsFirst, Leads, unknown}
+use Rattle.mirror_engines.specs.Worlds.{Brings, BringsSets, BringsTrees, GivesOwnSets, Hears, IsCaughtUp, IsInWorld, IsPortOf, IsThroughout, Leads, unknown}
 use Rattle.mirror_engines.specs.declared.work.Work.{Work}
 use Rattle.mirror_engines.specs.declared.work.Work.TheVariants as work
 
@@ -62,6 +63,13 @@ worked_right (work.CopyRevprops token low high) said ended r = right_in _ _ said
 tells_of : {M : Type 0} (answered : M → M → List Exchange → Type 0) (master : M) (source : Repository) (said : List Spoken) → IsPortOf answered master source → Hears answered master said → TellsMaster (IsHeardOf source) said
 tells_of answered master source said is h = record { made = h.made; each = is h.last h.made h.gave; told = h.told }
 
+gives_in : {M : Type 0} (answered : M → M → List Exchange → Type 0) (master : M) (source : Repository) (said : List Spoken) → GivesOwnSets answered master source → Hears answered master said → TellsMaster (IsAnsweredBy source) said
+gives_in answered master source said is h = record { made = h.made; each = is h.last h.made h.gave; told = h.told }
+
+-- a repository has as many sets as revisions
+as_many : (r : Repository) → IsRepository r → length r.sets ≡ length r.revisions
+as_many r is = length-made [] r.sets (trees_of r.revisions) is.made ∙ length-map r.revisions (λ x. x.tree)
+
 -- what was accepted is a front of what counts
 front_of : (m now : MirrorNow) (accepted counted : List Call) → HasCome m now accepted counted → (rest : List Call) × (accepted ++ rest ≡ counted)
 front_of m now accepted counted (Working same none all at) = ([], append-nil accepted ∙ sym all)
@@ -78,11 +86,12 @@ leaves_as clock left_since old new P Q f x = record { later = x.later; each = λ
     widen t c (inl y) = inl y
     widen t c (inr y) = inr (f c y)
 
-brings_trees : {D M : Type 0} {G : Ghosts D} (answered : M → M → List Exchange → Type 0) (master : M) (w : Work) (old new : RepoStore D G) (before now : Option (List ℕ)) (fails : Type 0) (result : Result (Unit {0}) Refusal) → FrontsStayFirst → EndsKeepAll → 0 < length (revisions_of old)
-    → Serves answered master (IsWorked w) old new before now fails result → (source : Repository) → IsPortOf answered master source → ¬ HasFailed old → BringsTrees source old new
-brings_trees {G = G} answered master w old new before now fails result fronts ends some s source is works first =
+-- what is so after each front of the calls that count is so throughout
+throughout : {D M : Type 0} {G : Ghosts D} (answered : M → M → List Exchange → Type 0) (master : M) (w : Work) (old new : RepoStore D G) (before now : Option (List ℕ)) (fails : Type 0) (result : Result (Unit {0}) Refusal) (P : Repository → Type 0) → EndsKeepAll
+    → (s : Serves answered master (IsWorked w) old new before now fails result) → ¬ HasFailed old → ((front rest : List Call) → front ++ rest ≡ counted_in s.said → P (replayed (repository_of old) front)) → IsThroughout P old new
+throughout {G = G} answered master w old new before now fails result P ends s works so =
     record {
-      memory = subst (λ r. StaysFirst source (repository_of old) r) (sym (come_to (begun (repository_of old)) left.now (accepted_in s.said) (counted_in s.said) left.come) ∙ left.there.repository) (stays (accepted_in s.said) accepted.0 accepted.1);
+      memory = subst P (sym (come_to (begun (repository_of old)) left.now (accepted_in s.said) (counted_in s.said) left.come) ∙ left.there.repository) (so (accepted_in s.said) accepted.0 accepted.1);
       disk = λ honest. record {
         during = leaves_as G.clock G.left_since (disk_of old) (disk_of new) (KeepsFront (begun (repository_of old)) (counted_in s.said)) Kept during (left.any_moment honest);
         last = λ image l. last image (ends (begun (repository_of old)) left.now (accepted_in s.said) (counted_in s.said) image refl left.come (left.last honest image l));
@@ -90,31 +99,38 @@ brings_trees {G = G} answered master w old new before now fails result fronts en
     }
   where
     Kept : Image → Type 0
-    Kept image = (r : Repository) × StaysFirst source (repository_of old) r × journal.Keeps r image
-
-    right : IsRight s.said
-    right = worked_right w s.said s.ended s.run
+    Kept image = (r : Repository) × P r × journal.Keeps r image
 
     left : Leaves old new (accepted_in s.said) (counted_in s.said)
     left = s.left works
-
-    led : Leads old new s.said
-    led = s.led works
-
-    stays : (front rest : List Call) → front ++ rest ≡ counted_in s.said → StaysFirst source (repository_of old) (replayed (repository_of old) front)
-    stays front rest e = fronts source right.order s.said (begun (repository_of old)) led.now right.right (tells_of answered master source s.said is s.heard) led.led some first front rest e
 
     accepted : (rest : List Call) × (accepted_in s.said ++ rest ≡ counted_in s.said)
     accepted = front_of (begun (repository_of old)) left.now (accepted_in s.said) (counted_in s.said) left.come
 
     during : (image : Image) → KeepsFront (begun (repository_of old)) (counted_in s.said) image → Kept image
-    during image (inl (inl k)) = (repository_of old, stays [] (counted_in s.said) refl, k)
+    during image (inl (inl k)) = (repository_of old, so [] (counted_in s.said) refl, k)
     during image (inl (inr k)) = absurd k
-    during image (inr f) = (replayed (repository_of old) f.0, stays f.0 f.1 f.2, f.3)
+    during image (inr f) = (replayed (repository_of old) f.0, so f.0 f.1 f.2, f.3)
 
     last : (image : Image) → journal.Keeps (replayed (repository_of old) (accepted_in s.said)) image ⊎ journal.Keeps (replayed (repository_of old) (counted_in s.said)) image → Kept image
-    last image (inl k) = (replayed (repository_of old) (accepted_in s.said), stays (accepted_in s.said) accepted.0 accepted.1, k)
-    last image (inr k) = (replayed (repository_of old) (counted_in s.said), stays (counted_in s.said) [] (append-nil (counted_in s.said)), k)
+    last image (inl k) = (replayed (repository_of old) (accepted_in s.said), so (accepted_in s.said) accepted.0 accepted.1, k)
+    last image (inr k) = (replayed (repository_of old) (counted_in s.said), so (counted_in s.said) [] (append-nil (counted_in s.said)), k)
+
+brings_trees : {D M : Type 0} {G : Ghosts D} (answered : M → M → List Exchange → Type 0) (master : M) (w : Work) (old new : RepoStore D G) (before now : Option (List ℕ)) (fails : Type 0) (result : Result (Unit {0}) Refusal) → FrontsStayFirst → EndsKeepAll → 0 < length (revisions_of old)
+    → Serves answered master (IsWorked w) old new before now fails result → (source : Repository) → IsPortOf answered master source → ¬ HasFailed old → BringsTrees source old new
+brings_trees answered master w old new before now fails result fronts ends some s source is works first =
+    let right = worked_right w s.said s.ended s.run in
+    let led = s.led works in
+    throughout answered master w old new before now fails result (StaysFirst source (repository_of old)) ends s works
+    (λ front rest e. fronts source right.order s.said (begun (repository_of old)) led.now right.right (tells_of answered master source s.said is s.heard) led.led some first front rest e)
+
+brings_sets : {D M : Type 0} {G : Ghosts D} (answered : M → M → List Exchange → Type 0) (master : M) (w : Work) (old new : RepoStore D G) (before now : Option (List ℕ)) (fails : Type 0) (result : Result (Unit {0}) Refusal) → FrontsKeepSets → EndsKeepAll → IsRepository (repository_of old)
+    → Serves answered master (IsWorked w) old new before now fails result → (source : Repository) → GivesOwnSets answered master source → ¬ HasFailed old → BringsSets source old new
+brings_sets answered master w old new before now fails result fronts ends is s source gives works first =
+    let right = worked_right w s.said s.ended s.run in
+    let led = s.led works in
+    throughout answered master w old new before now fails result (HasFirstSets source) ends s works
+    (λ front rest e. fronts source right.order s.said (begun (repository_of old)) led.now right.right (gives_in answered master source s.said gives s.heard) led.led is.begun (as_many (repository_of old) is) first front rest e)
 
 -- a synchronisation that is done
 ended_well : (ended : Result (Unit {0}) SyncFault) (lost : Bool) (result : Result (Unit {0}) Refusal) (P : Type 0) → result ≡ answer_of ended lost → (ended ≡ Ok tt → P) → OnOk result P
@@ -135,13 +151,14 @@ brings_all answered master (work.Synchronize token steal) old new before now fai
     (all source (Sync token steal) s.said (begun (repository_of old)) (s.led works).now (tells_of answered master source s.said is s.heard) (s.led works).led some (synced_in token steal s.said (subst (λ x. IsWorked (work.Synchronize token steal) s.said x) e s.run))))
 
 -- all that a run of a work brings
-pub brings : {D M : Type 0} {G : Ghosts D} (H : MasterGhosts M) (master : M) (w is : Work) (old new : RepoStore D G) (before now : Option (List ℕ)) (fails : Type 0) (result : Result (Unit {0}) Refusal) → w ≡ is → FrontsStayFirst → SyncedHasAll → EndsKeepAll → 0 < length (revisions_of old)
+pub brings : {D M : Type 0} {G : Ghosts D} (H : MasterGhosts M) (master : M) (w is : Work) (old new : RepoStore D G) (before now : Option (List ℕ)) (fails : Type 0) (result : Result (Unit {0}) Refusal) → w ≡ is → FrontsStayFirst → FrontsKeepSets → SyncedHasAll → EndsKeepAll → IsRepository (repository_of old)
     → Serves H.answered master (IsWorked is) old new before now fails result → IsInWorld H master old new → Brings H w master old new result
-brings H master w is old new before now fails result e fronts synced ends some s world =
+brings H master w is old new before now fails result e fronts sets synced ends rules s world =
     record {
       world = world;
-      trees = brings_trees H.answered master is old new before now fails result fronts ends some s;
-      all = λ source port works. subst (λ x. OnOk result (IsCaughtUp x source new)) (sym e) (brings_all H.answered master is old new before now fails result synced some s source port works);
+      trees = brings_trees H.answered master is old new before now fails result fronts ends rules.begun s;
+      sets = brings_sets H.answered master is old new before now fails result sets ends rules s;
+      all = λ source port works. subst (λ x. OnOk result (IsCaughtUp x source new)) (sym e) (brings_all H.answered master is old new before now fails result synced rules.begun s source port works);
     }
 
 -- of whatever master a run was, it is one of a master of which nothing is known

@@ -9,8 +9,8 @@ use Rattle.repo_store.specs.Journal as journal
 use Rattle.repo_store.specs.Words.{disk_of, repository_of, revisions_of, HasFailed}
 use Rattle.repo_store.specs.declared.store.RepoStore.{RepoStore}
 use Rattle.sync_core.specs.World.{Origin}
-use Rattle.sync_job.specs.Alone.{begun, IsHeardOf, IsMasterAt, StandsAt}
-use Rattle.sync_job.specs.Leading.{LeadsMirror, StaysFirst}
+use Rattle.sync_job.specs.Alone.{begun, IsAnsweredBy, IsHeardOf, IsMasterAt, StandsAt}
+use Rattle.sync_job.specs.Leading.{HasFirstSets, LeadsMirror, StaysFirst}
 use Rattle.sync_job.specs.Mirrors.{MirrorNow}
 use Rattle.sync_job.specs.Questions.{Exchange, IsSaidOf, questions_in}
 use Rattle.sync_job.specs.Said.{Spoken}
@@ -66,14 +66,22 @@ pub record Leads {D : Type 0} {G : Ghosts D} (old new : RepoStore D G) (said : L
 abbrev pub IsPortOf : {M : Type 0} → (M → M → List Exchange → Type 0) → M → Repository → Type 0
 IsPortOf {M} answered master source = (last : M) (made : List Exchange) → answered last master made → AllByRecursion (IsHeardOf source) made
 
--- where the mirror's trees were the first ones of the source, they are so at the end, and in whatever a stop leaves at any moment of
--- the run and at its end; and they are no fewer
-pub record KeepsFirst {D : Type 0} {G : Ghosts D} (source : Repository) (old new : RepoStore D G) : Type 0 where
-  pub memory : StaysFirst source (repository_of old) (repository_of new)
-  pub disk : G.honest (disk_of old) → StopsLeave G.clock G.left_since (disk_of old) (disk_of new) (λ image. (r : Repository) × StaysFirst source (repository_of old) r × journal.Keeps r image)
+-- and each set that it gives is that repository's own
+abbrev pub GivesOwnSets : {M : Type 0} → (M → M → List Exchange → Type 0) → M → Repository → Type 0
+GivesOwnSets {M} answered master source = (last : M) (made : List Exchange) → answered last master made → AllByRecursion (IsAnsweredBy source) made
 
+-- P is so of the mirror's repository at the end, and of whatever a stop leaves at any moment of the run and at its end
+pub record IsThroughout {D : Type 0} {G : Ghosts D} (P : Repository → Type 0) (old new : RepoStore D G) : Type 0 where
+  pub memory : P (repository_of new)
+  pub disk : G.honest (disk_of old) → StopsLeave G.clock G.left_since (disk_of old) (disk_of new) (λ image. (r : Repository) × P r × journal.Keeps r image)
+
+-- where the mirror's trees were the first ones of the source, they are so throughout, and no fewer
 abbrev pub BringsTrees : {D : Type 0} {G : Ghosts D} → Repository → RepoStore D G → RepoStore D G → Type 0
-BringsTrees source old new = AreFirst (trees_of (revisions_of old)) (trees_of source.revisions) → KeepsFirst source old new
+BringsTrees source old new = AreFirst (trees_of (revisions_of old)) (trees_of source.revisions) → IsThroughout (StaysFirst source (repository_of old)) old new
+
+-- where its change sets were the first ones of the source, they are so throughout
+abbrev pub BringsSets : {D : Type 0} {G : Ghosts D} → Repository → RepoStore D G → RepoStore D G → Type 0
+BringsSets source old new = HasFirstSets source (repository_of old) → IsThroughout (HasFirstSets source) old new
 
 -- a mirror that is synchronised has as many revisions as its source
 abbrev pub IsCaughtUp : {D : Type 0} {G : Ghosts D} → Work → Repository → RepoStore D G → Type 0
@@ -84,8 +92,9 @@ IsCaughtUp (work.CopyRevprops token low high) source new = Unit {0}
 -- what a run of this work over a mirror's store makes of it, of any master
 pub record Brings {D M : Type 0} {G : Ghosts D} (H : MasterGhosts M) (work : Work) (master : M) (old new : RepoStore D G) (result : Result (Unit {0}) Refusal) : Type 0 where
   pub world : IsInWorld H master old new
-  -- where the master is a repository, of the mirror's trees and of their number
+  -- where the master is a repository, of the mirror's trees, of its sets, and of their number
   pub trees : (source : Repository) → IsPortOf H.answered master source → ¬ HasFailed old → BringsTrees source old new
+  pub sets : (source : Repository) → GivesOwnSets H.answered master source → ¬ HasFailed old → BringsSets source old new
   pub all : (source : Repository) → IsPortOf H.answered master source → ¬ HasFailed old → OnOk result (IsCaughtUp work source new)
 
 -- what a run over a mirror's store makes of it, where its master is this repository, whatever the run answers: in every world in which

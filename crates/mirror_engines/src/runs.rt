@@ -87,7 +87,8 @@ pub fn run_copy_revprops<D: Disk + Drop, M: MasterPort + Drop, O: Output + Drop>
 
 /// Runs the work over a mirror's store and a master: as `run_initialize`, `run_synchronize` and `run_copy_revprops`.
 /// Where the master's port tells what a repository is, and the mirror's trees were that one's first ones, they are so
-/// whenever it stops; and a synchronisation that is done has left as many revisions.
+/// whenever it stops; so it is of its change sets, where the port gives its own; and a synchronisation that is done has
+/// left as many revisions.
 pub fn run_work<D: Disk + Drop, M: MasterPort + Drop, O: Output + Drop>(
     alloc: Global,
     mirror: RepoStore<D>,
