@@ -26,7 +26,7 @@ const MIRROR: Word<'static> = Word {
 const SOURCE: Word<'static> = Word {
     name: "SOURCE",
     kind: WordKind::Place,
-    help: "The folder of its source, or svn://127.0.0.1:P/ where `svnfleet serve` has it",
+    help: "The folder of its source, or svn://127.0.0.1:P/ where `svnfleet serve` or `svnserve` has it",
 };
 
 const TOKEN: Word<'static> = Word {

@@ -65,7 +65,7 @@ The status is 0; 1 with a line where the folder can't be opened or the device fa
 pub const INITIALIZE: &str = "\
 Begins a mirror: MIRROR is a repository that `create` has begun and that has no revision, and is given the
 properties of SOURCE's revision 0. Prints `Copied properties for revision 0.`
-SOURCE is a folder, or svn://127.0.0.1:P/ for the repository that `svnfleet serve` has on that port.
+SOURCE is a folder, or svn://127.0.0.1:P/ for the repository that `svnfleet serve` or `svnserve` has on that port.
 SOURCE is kept, as it is given, in the mirror's property svn:sync-from-url. From then on `load` and `mkdir`
 refuse MIRROR (24): `synchronize` alone gives it revisions.
 The status is 0; 1 with a line where a folder can't be opened, nobody listens on the port (49), the server
@@ -80,7 +80,7 @@ it prints nothing. It goes on where a run before it was stopped.
 While it runs MIRROR has a sync lock with the token T. A run that was stopped leaves its lock, and the next
 is refused (54) until it is run with --steal-lock. The folders are held while it runs: a run beside it is
 refused with 31, so a lock that --steal-lock takes is one of a run that has ended.
-SOURCE is a folder, or svn://127.0.0.1:P/ for the repository that `svnfleet serve` has on that port.
+SOURCE is a folder, or svn://127.0.0.1:P/ for the repository that `svnfleet serve` or `svnserve` has on that port.
 The status is 0; 1 with a line where a folder can't be opened, nobody listens on the port (49), the server
 refuses or says nothing for so many SECONDS (60), SOURCE is another repository than the one that MIRROR was
 initialized from (56) or the device fails; 2 where the words are wrong.";
@@ -91,7 +91,7 @@ Copies the properties of SOURCE's revisions LO to HI to MIRROR again, as when th
 `synchronize`, and prints `Copied properties for revision N.` for each. Nothing is copied where MIRROR lacks
 one of them (58). Properties whose names begin with svn:sync- stay as they are.
 While it runs MIRROR has a sync lock with the token T; `synchronize --steal-lock` takes one that was left.
-SOURCE is a folder, or svn://127.0.0.1:P/ for the repository that `svnfleet serve` has on that port.
+SOURCE is a folder, or svn://127.0.0.1:P/ for the repository that `svnfleet serve` or `svnserve` has on that port.
 The status is 0; 1 with a line where it is refused or the device fails; 2 where the words are wrong.";
 
 /// Of `info`.
