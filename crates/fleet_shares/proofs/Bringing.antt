@@ -28,7 +28,6 @@ use Rattle.sync_job.specs.Runs.{AreRight, IsLooked, IsSaid, answer_of, hears, he
 use Rattle.sync_job.specs.Said.{Spoken, Says, NoTree, Tells}
 use Rattle.sync_job.specs.Telling.{IsSaidAs, calls_in}
 use Rattle.store_share.proofs.Showing.{some_is}
-use Rattle.sync_job.proofs.Leading.{heard_done, heard_err}
 
 -- numbers
 
@@ -52,6 +51,17 @@ same_seen s t e = ap (λ a. of a) e
     of : Answer → Standing
     of (answer.Seen x) = x
     of _ = s
+
+-- a refused call is heard as refused
+heard_err : {A : Type 0} (f : SyncFault) (s : Standing) → IsHeard (Err f) (answer.Seen s) → A
+heard_err f s (inl e) = absurd (cc)
+heard_err f s (inr (inl e)) = absurd (let x = e.0 in cc)
+heard_err f s (inr (inr e)) = absurd (let x = e.0 in cc)
+
+heard_done : {A : Type 0} (f : SyncFault) → IsHeard (Err f) answer.Done → A
+heard_done f (inl e) = absurd (cc)
+heard_done f (inr (inl e)) = absurd (let x = e.0 in cc)
+heard_done f (inr (inr e)) = absurd (let x = e.0 in cc)
 
 -- only a look is answered by how a mirror stands
 only_look : (call : Call) → IsLook call → call ≡ Look
