@@ -23,10 +23,10 @@ use Rattle.sync_job.specs.declared.report.Told.{Told}
 use Rattle.mirror_engines.specs.Infos.{info_fault, info_text, IsUntold}
 use Rattle.mirror_engines.specs.Lines.{line_of, IsPrinted, Printed, Lost}
 use Rattle.mirror_engines.specs.Runs.{answer_of, IsWorked, Serves}
-use Rattle.mirror_engines.specs.Worlds.{later_at, stands_in, stands_last, BringsTrees, Hears, IsCaughtUp, EventsInWorld, IsMirroredFrom, IsPortOf, StopsInWorld}
+use Rattle.mirror_engines.specs.Worlds.{later_at, stands_in, stands_last, BringsTrees, GivesOwnSets, Hears, IsCaughtUp, EventsInWorld, IsMirroredFrom, IsPortOf, StopsInWorld}
 use Rattle.mirror_engines.specs.declared.work.Work.{Work}
 use Rattle.mirror_engines.proofs.Worlds.{events_on, stops_at}
-use Rattle.fleet_main.specs.Doing.{BroughtOn, IsBrought, IsOpenedIn, IsToldOf, NoSourceOr, NotBrought, NotBroughtOn, NotToldOf, NotWorkedOn, OfBoth, OfStanding, OverSource, UnopenedBoth, UnopenedOr, WorkedOn, no_source, both}
+use Rattle.fleet_main.specs.Doing.{BroughtOn, IsBrought, IsCopiedFrom, IsOpenedIn, IsToldOf, NoSourceOr, NotBrought, NotBroughtOn, NotToldOf, NotWorkedOn, OfBoth, OfStanding, OverSource, UnopenedBoth, UnopenedOr, WorkedOn, no_source, both}
 use Rattle.fleet_main.specs.Loans.{TakesBack, only_of}
 use Rattle.fleet_main.specs.declared.lending.Folders.{Ghosts as FolderGhosts}
 use Rattle.fleet_main.proofs.Doing.{KeptThen, kept_opened, standing}
@@ -82,6 +82,9 @@ all_heard source (x ∷ xs) a = (a.0.0, all_heard source xs a.1)
 pub port_of_lent : {D : Type 0} {G : Ghosts D} (port : LentMaster D G) (master : RepoStore D G) → lent_in port ≡ master → IsPortOf answered_lent port (repository_of master)
 port_of_lent port master e last made h = all_heard (repository_of master) made (answers_of_lent port master e last made h)
 
+pub sets_of_lent : {D : Type 0} {G : Ghosts D} (port : LentMaster D G) (master : RepoStore D G) → lent_in port ≡ master → GivesOwnSets answered_lent port (repository_of master)
+sets_of_lent port master e last made h = answers_of_lent port master e last made h
+
 later_lent : {D : Type 0} {G : Ghosts D} (port : LentMaster D G) (master : RepoStore D G) → lent_in port ≡ master → (o : Origin) → later_at answered_lent lent_at port o → IsMasterAt (repository_of master) o
 later_lent {D} {G} port master e o x = subst (λ s. IsMasterAt (repository_of s) o) e (subst (λ (p : LentMaster D G). lent_at p o) x.1.1.0 x.2)
 
@@ -97,13 +100,13 @@ mirrored_lent {D} {G} port old new master e world stops trees =
     }
 
 pub brought_done : {D : Type 0} {G : Ghosts D} (port : LentMaster D G) (w : Work) (r : Result (Unit {0}) Refusal) (old new master : RepoStore D G) (before now : Option (List ℕ)) (fails : Type 0) → lent_in port ≡ master → Serves answered_lent port (IsWorked w) old new before now fails r
-    → (¬ HasFailed old → IsMirroredFrom (repository_of master) old new) → (¬ HasFailed old → OnOk r (IsCaughtUp w (repository_of master) new)) → OnOk r (BroughtOn w before now master old new)
+    → (¬ HasFailed old → IsCopiedFrom (repository_of master) old new) → (¬ HasFailed old → OnOk r (IsCaughtUp w (repository_of master) new)) → OnOk r (BroughtOn w before now master old new)
 brought_done port w (Ok u) old new master before now fails e s from all =
     λ works. (worked_done answered_lent port (IsAnsweredBy (repository_of master)) (IsWorked w) (Ok u) old new before now fails (answers_of_lent port master e) s works, from works, all works)
 brought_done port w (Err x) old new master before now fails e s from all = tt
 
 pub brought_refused : {D : Type 0} {G : Ghosts D} (port : LentMaster D G) (w : Work) (r : Result (Unit {0}) Refusal) (old new master : RepoStore D G) (before now : Option (List ℕ)) (fails : Type 0) → lent_in port ≡ master → Serves answered_lent port (IsWorked w) old new before now fails r
-    → (¬ HasFailed old → IsMirroredFrom (repository_of master) old new) → IfErr r (λ e. NotBroughtOn w before now fails e master old new)
+    → (¬ HasFailed old → IsCopiedFrom (repository_of master) old new) → IfErr r (λ e. NotBroughtOn w before now fails e master old new)
 brought_refused port w (Ok u) old new master before now fails e s from = tt
 brought_refused port w (Err x) old new master before now fails e s from =
     λ works. (worked_refused answered_lent port (IsAnsweredBy (repository_of master)) (IsWorked w) (Err x) old new before now fails (answers_of_lent port master e) s works, from works)

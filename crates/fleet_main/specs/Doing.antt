@@ -20,7 +20,7 @@ use Rattle.node_base.specs.PathText.{path_read}
 use Rattle.node_base.specs.declared.refusal.Refusal.{Refusal}
 use Rattle.node_base.specs.declared.refusal.Refusal.TheVariants as refusal
 use Rattle.node_base.specs.declared.limits.TheConstants.{PROP_VALUE_BYTES}
-use Rattle.repo_core.specs.Repository.{Revision, fresh, head_of, props_at}
+use Rattle.repo_core.specs.Repository.{Repository, Revision, fresh, head_of, props_at}
 use Rattle.repo_store.specs.Journal.{beginning_of, Keeps, KeepsAlike, KeepsOr, ReopensTo}
 use Rattle.repo_store.specs.Words.{disk_of, doubt_of, identity_of, log_of, repository_of, revisions_of, HasFailed}
 use Rattle.repo_store.specs.declared.store.RepoStore.{RepoStore}
@@ -44,7 +44,7 @@ use Rattle.sync_job.specs.Said.{Spoken, told_in}
 use Rattle.mirror_engines.specs.Infos.{info_fault, info_text, IsUntold}
 use Rattle.mirror_engines.specs.Lines.{line_of, IsPrinted}
 use Rattle.mirror_engines.specs.Runs.{answer_of, IsWorked, Leaves}
-use Rattle.mirror_engines.specs.Worlds.{IsCaughtUp, IsMirroredFrom, Leads}
+use Rattle.mirror_engines.specs.Worlds.{BringsSets, IsCaughtUp, IsMirroredFrom, Leads}
 use Rattle.mirror_engines.specs.declared.work.Work.{Work}
 use Rattle.mirror_engines.specs.declared.work.Work.TheVariants as work
 use Rattle.fleet_main.specs.Loans.{AreBack, IsLent, Loan, lent_by, only_of}
@@ -201,14 +201,19 @@ WorkedOn P IsRun before now old new = ¬ HasFailed old → IsWorkedOver P IsRun 
 abbrev pub NotWorkedOn : {D : Type 0} {G : Ghosts D} → (Exchange → Type 0) → (List Spoken → Result (Unit {0}) SyncFault → Type 0) → Option (List ℕ) → Option (List ℕ) → Type 0 → Refusal → RepoStore D G → RepoStore D G → Type 0
 NotWorkedOn P IsRun before now fails e old new = ¬ HasFailed old → NotWorkedOver P IsRun before now fails e old new
 
+-- the mirror is one of the source throughout, and where its change sets were the source's first ones they are so throughout
+pub record IsCopiedFrom {D : Type 0} {G : Ghosts D} (source : Repository) (old new : RepoStore D G) : Type 0 where
+  pub mirrored : IsMirroredFrom source old new
+  pub sets : BringsSets source old new
+
 -- the work is done over a mirror's store and its source's: each answer of the master is what the source is, and a mirror that is synchronised has as many revisions
 abbrev pub IsBrought : {D : Type 0} {G : Ghosts D} → Work → Option (List ℕ) → Option (List ℕ) → RepoStore D G → RepoStore D G → RepoStore D G → Type 0
 IsBrought w before now master old new =
-    IsWorkedOver (IsAnsweredBy (repository_of master)) (IsWorked w) before now old new × IsMirroredFrom (repository_of master) old new × IsCaughtUp w (repository_of master) new
+    IsWorkedOver (IsAnsweredBy (repository_of master)) (IsWorked w) before now old new × IsCopiedFrom (repository_of master) old new × IsCaughtUp w (repository_of master) new
 
 -- or it isn't done
 abbrev pub NotBrought : {D : Type 0} {G : Ghosts D} → Work → Option (List ℕ) → Option (List ℕ) → Type 0 → Refusal → RepoStore D G → RepoStore D G → RepoStore D G → Type 0
-NotBrought w before now fails e master old new = NotWorkedOver (IsAnsweredBy (repository_of master)) (IsWorked w) before now fails e old new × IsMirroredFrom (repository_of master) old new
+NotBrought w before now fails e master old new = NotWorkedOver (IsAnsweredBy (repository_of master)) (IsWorked w) before now fails e old new × IsCopiedFrom (repository_of master) old new
 
 -- the same of a mirror's store, if it works
 abbrev pub BroughtOn : {D : Type 0} {G : Ghosts D} → Work → Option (List ℕ) → Option (List ℕ) → RepoStore D G → RepoStore D G → RepoStore D G → Type 0
